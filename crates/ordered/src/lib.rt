@@ -1,0 +1,1 @@
+// Mathematics only: the definitions stand in specs/, their laws in proofs/.
