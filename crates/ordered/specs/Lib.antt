@@ -1,1 +1,10 @@
+-- Mathematics only, over every width: words and their bits, sets and the ordered dictionary of source 004, the tree of a set,
+-- and the ways of document 01 over a tree. Read in this order.
+pub mod Such
 pub mod Word
+pub mod Dictionary
+pub mod Tree
+pub mod Way
+pub mod Reading
+pub mod Change
+pub mod Example

@@ -1,9 +1,27 @@
--- Words and their bits, for every width.
+-- Words and their bits, for every width W.
+-- Document 01: "At depth d, d below W, the bit that decides is bit W−1−d of the key, the highest first. 0 goes left, 1 goes right."
+-- We count the bits that are left, m = W − d, and not the depth: m falls to 0 by itself on the way down.
 use Prim.Native.Nat.{ℕ, zero, suc, _/_, _%_, _^_}
 use mathlib.Core.Bool.{Bool, true, false}
 
-infix 5 if_then_else_
+pub data Side : Type 0 where
+  left right : Side
 
-abbrev pub if_then_else_ {ℓ} : {A : Type ℓ} → Bool → A → A → A
-if true then a else b = a
-if false then a else b = b
+-- "0 goes left, 1 goes right"
+abbrev pub sideOf : ℕ → Side
+sideOf zero = left
+sideOf (suc b) = right
+
+-- the side to which the deciding bit of k sends it from a row with m + 1 bits left: bit W−1−d, where m + 1 = W − d
+unfoldable pub side : ℕ → ℕ → Side
+side m k = sideOf (k / 2 ^ m % 2)
+
+abbrev pub other : Side → Side
+other left = right
+other right = left
+
+abbrev pub isSide : Side → Side → Bool
+isSide left left = true
+isSide left right = false
+isSide right left = false
+isSide right right = true

@@ -1,0 +1,106 @@
+-- The trees of document 01's sets A, B and C, and the calls over them, as they compute: a must-fail edit of a definition of a tree, a way
+-- or a change meets one of these. (The starred examples themselves are about replies on tables, and stand in `pretree`.)
+use Prim.Native.Nat.{ℕ}
+use mathlib.Core.Path.{_≡_, refl}
+use mathlib.Core.List.{List, [], _∷_}
+use Rattle.ordered.specs.Example.{Example, _is_, All-agree}
+use Rattle.ordered.specs.Such.{Perhaps, no-such, such, last-such}
+use Rattle.ordered.specs.Word.{Side, left, right, side}
+use Rattle.ordered.specs.Tree.{Tree, none, row, treeOf, going}
+use Rattle.ordered.specs.Way.{Step, way, rows, joined, following, passing-equal, pushing, down, staying}
+use Rattle.ordered.specs.Reading.{Reading, rowsOf, has, next, prev, first, last, gap}
+use Rattle.ordered.specs.Change.{Take, Adding, Erasing, adding, erasing, pushed, left-over, raised}
+
+abbrev word : ℕ → ℕ → Tree → Tree → Tree
+word i k l r = row i (record { key = k }) l r
+
+abbrev leaf : ℕ → ℕ → Tree
+leaf i k = word i k none none
+
+-- "root 4, right 8; below 8 left 11, right 15"
+abbrev A : Tree
+A = word 0 4 none (word 0 8 (leaf 0 11) (leaf 0 15))
+
+abbrev B : Tree
+B = word 0 0 (word 0 1 none (word 0 2 none (leaf 0 3))) (leaf 0 4)
+
+abbrev trees : List (Example Tree)
+trees =
+    treeOf 4 (4 ∷ 8 ∷ 11 ∷ 15 ∷ []) is A
+    ∷ treeOf 3 (0 ∷ 1 ∷ 2 ∷ 3 ∷ 4 ∷ []) is B
+    ∷ treeOf 1 (0 ∷ 1 ∷ []) is word 0 0 none (leaf 0 1)
+    ∷ []
+
+trees-agree : All-agree trees
+unfolding treeOf going side
+trees-agree = refl
+
+-- a reading in short: its rows and its answer
+abbrev short : Reading → ℕ × Perhaps ℕ
+short r = (rowsOf (r .ways), r .answer)
+
+abbrev readings : List (Example (ℕ × Perhaps ℕ))
+readings =
+    short (has 4 11 A) is (3, such 11)
+    ∷ short (has 4 9 A) is (3, no-such)
+    ∷ short (prev 4 4 A) is (1, no-such)
+    ∷ short (prev 4 9 A) is (3, such 8)
+    ∷ short (next 4 9 A) is (3, such 11)
+    ∷ short (next 4 15 A) is (3, no-such)
+    ∷ short (gap 4 9 A) is (6, such 1)
+    ∷ short (gap 4 0 A) is (2, such 4)
+    ∷ short (prev 3 4 B) is (5, such 3)
+    ∷ short (next 3 3 B) is (5, such 4)
+    ∷ short (first 3 B) is (1, such 0)
+    ∷ short (last 3 B) is (2, such 4)
+    ∷ []
+
+readings-agree : All-agree readings
+unfolding rowsOf has next prev first last gap way rows following passing-equal down staying last-such side
+readings-agree = refl
+
+-- the tree of A as the line program's example numbers its rows
+abbrev A-numbered : Tree
+A-numbered = word 0 4 none (word 1 8 (leaf 2 11) (leaf 3 15))
+
+-- the rows that take an entry, each with its key
+abbrev taken : List Take → List (ℕ × ℕ)
+taken [] = []
+taken (t ∷ ts) = (t .at, t .entry .key) ∷ taken ts
+
+abbrev hooked : Perhaps Step → Perhaps (ℕ × Side)
+hooked no-such = no-such
+hooked (such s) = such (s .at, s .turn)
+
+-- an erase in short: its rows, the rows that take an entry, the hole and where it is linked
+abbrev erasing-short : Erasing → ℕ × List (ℕ × ℕ) × ℕ × Perhaps (ℕ × Side)
+erasing-short e = (rows (e .rows-read), taken (e .takes), e .hole, hooked (e .hook))
+
+abbrev erases : List (Example (ℕ × List (ℕ × ℕ) × ℕ × Perhaps (ℕ × Side)))
+erases =
+    erasing-short (erasing 4 8 A-numbered) is (3, (1, 11) ∷ [], 2, such (1, left))
+    ∷ erasing-short (erasing 4 4 A-numbered) is (3, (0, 8) ∷ (1, 11) ∷ [], 2, such (1, left))
+    ∷ erasing-short (erasing 4 15 A-numbered) is (3, [], 3, such (1, right))
+    ∷ erasing-short (erasing 4 4 (leaf 0 4)) is (1, [], 0, no-such)
+    ∷ []
+
+erases-agree : All-agree erases
+unfolding erasing raised way rows joined following down last-such side
+erases-agree = refl
+
+-- an addition in short: its rows, the rows that take an entry, the key of the new row and where it is linked
+abbrev adding-short : Adding → ℕ × List (ℕ × ℕ) × ℕ × Perhaps (ℕ × Side)
+adding-short a = (rows (a .rows-read), taken (a .takes), a .new-entry .key, hooked (a .hook))
+
+abbrev adds : List (Example (ℕ × List (ℕ × ℕ) × ℕ × Perhaps (ℕ × Side)))
+adds =
+    adding-short (adding 4 4 (leaf 0 8)) is (1, (0, 4) ∷ [], 8, such (0, right))
+    ∷ adding-short (adding 4 12 A-numbered) is (3, (3, 12) ∷ [], 15, such (3, right))
+    ∷ adding-short (adding 4 0 A-numbered) is (1, (0, 0) ∷ [], 4, such (0, left))
+    ∷ adding-short (adding 4 9 A-numbered) is (3, (2, 9) ∷ [], 11, such (2, right))
+    ∷ adding-short (adding 4 7 none) is (0, [], 7, no-such)
+    ∷ []
+
+adds-agree : All-agree adds
+unfolding adding pushed left-over way rows joined following pushing last-such side
+adds-agree = refl

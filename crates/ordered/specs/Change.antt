@@ -1,0 +1,112 @@
+-- What `add` and `del` do to a tree with m bits left: the rows that they read, and the entries that change their rows.
+use Prim.Native.Nat.{ℕ, zero, suc}
+use mathlib.Core.Bool.{Bool, true, false}
+use mathlib.Core.List.{List, [], _∷_, _++_}
+use lib.Dec.{eqb}
+use Rattle.ordered.specs.Such.{if_then_else_, Perhaps, no-such, such, only-if, last-such, anything}
+use Rattle.ordered.specs.Word.{Side, left}
+use Rattle.ordered.specs.Tree.{Tree, none, row, damaged, Entry}
+use Rattle.ordered.specs.Way.{Way, Step, way, joined, following, pushing, down}
+use Rattle.ordered.specs.Reading.{keyAt}
+
+-- a row that takes an entry
+pub record Take : Type 0 where
+  pub at : ℕ
+  pub entry : Entry
+
+abbrev pub isThere : Perhaps ℕ → Bool
+isThere no-such = false
+isThere (such x) = true
+
+-- the way of k ends at k
+abbrev pub ends-at : ℕ → Way → Bool
+ends-at k w = isThere (only-if (eqb k) (keyAt (w .end)))
+
+-- the last row that a way passes: the row above its end, and the side to which it turned there, where the end is linked
+abbrev pub above-end : Way → Perhaps Step
+above-end w = last-such anything (w .passed)
+
+-- a push: the first row takes the entry e, each next one the entry of the row before
+unfoldable pub pushed : Entry → List Step → List Take
+pushed e [] = []
+pushed e (s ∷ ss) = record { at = s .at; entry = e } ∷ pushed (s .entry) ss
+
+-- and this entry is left over for the new row
+unfoldable pub left-over : Entry → List Step → Entry
+left-over e [] = e
+left-over e (s ∷ ss) = left-over (s .entry) ss
+
+-- "`add` k: the way of k. If it ends at a key greater than k, that row takes k and its old key is pushed down by its own bits, taking
+-- each next row's place in turn, until a link is none. The new row is [..] linked where the way or the push ended"
+pub record Adding : Type 0 where
+  -- all the rows that are read: those of the way of k, then those that the push passes
+  pub rows-read : Way
+  -- the word is already there
+  pub present : Bool
+  pub takes : List Take
+  -- the entry of the new row, and the row and side where it is linked, unless the tree is empty
+  pub new-entry : Entry
+  pub hook : Perhaps Step
+
+abbrev pub adding-by : ℕ → Way → Way → Way → Bool → Adding
+adding-by k w push whole true =
+    record { rows-read = w; present = true; takes = []; new-entry = record { key = k }; hook = no-such }
+adding-by k w push whole false =
+    record {
+      rows-read = whole;
+      present = false;
+      takes = pushed (record { key = k }) (push .passed);
+      new-entry = left-over (record { key = k }) (push .passed);
+      hook = above-end whole;
+    }
+
+unfoldable pub adding : ℕ → ℕ → Tree → Adding
+adding m k t =
+    let w : Way = way (following k) m t in
+    let push : Way = way pushing (w .bits) (w .end) in
+    adding-by k w push (joined w push) (ends-at k w)
+
+-- an erase: each row of the stretch takes the entry of the row below it, the last one that of the hole
+unfoldable pub raised : List Step → Entry → List Take
+raised [] hole = []
+raised (s ∷ []) hole = record { at = s .at; entry = hole } ∷ []
+raised (s ∷ (t ∷ ss)) hole = record { at = s .at; entry = t .entry } ∷ raised (t ∷ ss) hole
+
+-- "`del` k: the way of k, then from k's row down by left link, else right link, each row taking the key below; the last row of this
+-- stretch, the hole, is unlinked."
+pub record Erasing : Type 0 where
+  -- all the rows that are read: those of the way of k, then those of the stretch below
+  pub rows-read : Way
+  pub present : Bool
+  pub takes : List Take
+  -- the row at which the stretch ends, and the row and side where it is linked, unless it is the root
+  pub hole : ℕ
+  pub hook : Perhaps Step
+
+abbrev pub numberAt : Tree → ℕ
+numberAt none = 0
+numberAt (row i e l r) = i
+numberAt damaged = 0
+
+abbrev pub entryAt : Tree → Entry
+entryAt none = record { key = 0 }
+entryAt (row i e l r) = e
+entryAt damaged = record { key = 0 }
+
+abbrev pub erasing-by : Way → Way → Way → Bool → Erasing
+erasing-by w stretch whole false =
+    record { rows-read = w; present = false; takes = []; hole = 0; hook = no-such }
+erasing-by w stretch whole true =
+    record {
+      rows-read = whole;
+      present = true;
+      takes = raised (stretch .passed) (entryAt (stretch .end));
+      hole = numberAt (stretch .end);
+      hook = above-end whole;
+    }
+
+unfoldable pub erasing : ℕ → ℕ → Tree → Erasing
+erasing m k t =
+    let w : Way = way (following k) m t in
+    let stretch : Way = way (down left) (w .bits) (w .end) in
+    erasing-by w stretch (joined w stretch) (ends-at k w)

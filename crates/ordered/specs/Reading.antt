@@ -1,0 +1,107 @@
+-- The reading calls over a tree with m bits left: the ways that each goes, and what it finds.
+use Prim.Native.Nat.{ℕ, zero, suc, _+_, _-_, min}
+use mathlib.Core.Bool.{Bool, true, false, _&&_, _||_}
+use mathlib.Core.List.{List, [], _∷_, _++_}
+use lib.Dec.{ltb, leb, eqb}
+use Rattle.ordered.specs.Such.{if_then_else_, Perhaps, no-such, such, first-of, only-if, last-such}
+use Rattle.ordered.specs.Word.{Side, left, right, isSide}
+use Rattle.ordered.specs.Tree.{Tree, none, row, damaged, exists}
+use Rattle.ordered.specs.Way.{Way, Step, way, rows, broken, ending, following, passing-equal, down, staying}
+
+-- the ways that were gone, and the word that was found, if there is such a word
+pub record Reading : Type 0 where
+  pub ways : List Way
+  pub answer : Perhaps ℕ
+
+-- the rows of all its ways
+unfoldable pub rowsOf : List Way → ℕ
+rowsOf [] = 0
+rowsOf (w ∷ ws) = rows w + rowsOf ws
+
+-- damage on one of its ways
+unfoldable pub brokenIn : List Way → Bool
+brokenIn [] = false
+brokenIn (w ∷ ws) = broken w || brokenIn ws
+
+-- the key of the row at which a way ends
+abbrev pub keyAt : Tree → Perhaps ℕ
+keyAt none = no-such
+keyAt (row i e l r) = such (e .key)
+keyAt damaged = no-such
+
+-- a way whose last row is the answer
+abbrev pub to-its-end : List Way → Way → Reading
+to-its-end before w = record { ways = before ++ (w ∷ []); answer = keyAt (w .end) }
+
+-- "found if the way of k ends at k"
+unfoldable pub has : ℕ → ℕ → Tree → Reading
+has m k t =
+    let w : Way = way (following k) m t in
+    record { ways = w ∷ []; answer = only-if (eqb k) (keyAt (w .end)) }
+
+-- where the way went left and a right link exists
+abbrev pub right-left-aside : Step → Bool
+right-left-aside s = isSide left (s .turn) && exists (s .right-part)
+
+-- "its right child is read"
+abbrev pub right-child : Perhaps Step → Way
+right-child no-such = ending 0 none
+right-child (such s) = way staying (s .below) (s .right-part)
+
+-- "If it meets a key greater than k, that is the answer. Otherwise take the deepest row where the way went left and a right link
+-- exists; its right child is read and is the answer."
+abbrev pub next-by : Way → Perhaps ℕ → Perhaps Step → Reading
+next-by w (such x) p = record { ways = w ∷ []; answer = such x }
+next-by w no-such p = to-its-end (w ∷ []) (right-child p)
+
+-- "least word greater than k; k need not be present"
+unfoldable pub next : ℕ → ℕ → Tree → Reading
+next m k t =
+    let w : Way = way (passing-equal k) m t in
+    next-by w (only-if (ltb k) (keyAt (w .end))) (last-such right-left-aside (w .passed))
+
+-- the way turned right, and there is a left child
+abbrev pub left-left-aside : Step → Bool
+left-left-aside s = isSide right (s .turn) && exists (s .left-part)
+
+-- the last row of the way with a key below k is its end, where there is no turn, or p, or there is none.
+-- "No such row: none. If the way turned right at p and p has a left child, go down from that child, right link first, else left link,
+-- until both are none; that row is the answer. Otherwise p."
+abbrev pub prev-by : Way → Perhaps ℕ → Perhaps Step → Reading
+prev-by w (such x) p = record { ways = w ∷ []; answer = such x }
+prev-by w no-such no-such = record { ways = w ∷ []; answer = no-such }
+prev-by w no-such (such p) =
+    let d : Way = way (down right) (p .below) (p .left-part) in
+    if left-left-aside p then to-its-end (w ∷ []) d
+    else record { ways = w ∷ []; answer = such (p .entry .key) }
+
+-- "greatest word less than k": "the way of k. Let p be its last row with key below k."
+unfoldable pub prev : ℕ → ℕ → Tree → Reading
+prev m k t =
+    let w : Way = way (following k) m t in
+    prev-by w (only-if (λ x. ltb x k) (keyAt (w .end))) (last-such (λ s. ltb (s .entry .key) k) (w .passed))
+
+-- "`first` reads the root."
+unfoldable pub first : ℕ → Tree → Reading
+first m t = to-its-end [] (way staying m t)
+
+-- "`last` goes down from the root by right link, else left link, until both are none."
+unfoldable pub last : ℕ → Tree → Reading
+last m t = to-its-end [] (way (down right) m t)
+
+-- "the smaller of the distances to `prev` and `next`, or the only one there is"
+abbrev pub nearest : ℕ → Perhaps ℕ → Perhaps ℕ → Perhaps ℕ
+nearest k no-such no-such = no-such
+nearest k (such p) no-such = such (k - p)
+nearest k no-such (such n) = such (n - k)
+nearest k (such p) (such n) = such (min (k - p) (n - k))
+
+-- "distance 0 if k is present (count: the way of k). Else [..] its count is the two counts added"
+abbrev pub gap-by : ℕ → Reading → Reading → Perhaps ℕ → List Way → Reading
+gap-by k p n (such x) ws = record { ways = ws; answer = such 0 }
+gap-by k p n no-such ws = record { ways = p .ways ++ n .ways; answer = nearest k (p .answer) (n .answer) }
+
+unfoldable pub gap : ℕ → ℕ → Tree → Reading
+gap m k t =
+    let h : Reading = has m k t in
+    gap-by k (prev m k t) (next m k t) (h .answer) (h .ways)

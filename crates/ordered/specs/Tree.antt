@@ -1,0 +1,66 @@
+-- The PreTree of a set, and the tree that a table shows, damage included: one type for both.
+-- Document 01: "The sound tree of a set is: its least word at the root, the rest parted by the next bit, and so on down."
+use Prim.Native.Nat.{ℕ, zero, suc, _+_}
+use mathlib.Core.Bool.{Bool, true, false, _&&_}
+use mathlib.Core.List.{List, [], _∷_, _++_}
+use Rattle.ordered.specs.Such.{if_then_else_}
+use Rattle.ordered.specs.Word.{Side, left, right, side, isSide}
+
+-- what a push or an erase moves from row to row
+pub record Entry : Type 0 where
+  pub key : ℕ
+
+-- none: an empty link; row: a row with its number, its entry, its left part and its right part; damaged: what no way may read
+pub data Tree : Type 0 where
+  none : Tree
+  row : ℕ → Entry → Tree → Tree → Tree
+  damaged : Tree
+
+-- the part on one side of a row
+abbrev pub part : Side → Tree → Tree → Tree
+part left l r = l
+part right l r = r
+
+-- whether a link is other than none
+abbrev pub exists : Tree → Bool
+exists none = false
+exists (row i e l r) = true
+exists damaged = true
+
+-- "The listing of a row's part is its key, then its left part, then its right part"
+unfoldable pub listing : Tree → List ℕ
+listing none = []
+listing (row i e l r) = e .key ∷ (listing l ++ listing r)
+listing damaged = []
+
+unfoldable pub size : Tree → ℕ
+size none = 0
+size (row i e l r) = suc (size l + size r)
+size damaged = 0
+
+-- no damage anywhere
+unfoldable pub intact : Tree → Bool
+intact none = true
+intact (row i e l r) = intact l && intact r
+intact damaged = false
+
+-- the same tree "row numbers apart": every number is 0
+unfoldable pub unnumbered : Tree → Tree
+unnumbered none = none
+unnumbered (row i e l r) = row 0 e (unnumbered l) (unnumbered r)
+unnumbered damaged = damaged
+
+-- the words that go to side s from a row with m + 1 bits left
+unfoldable pub going : Side → ℕ → List ℕ → List ℕ
+going s m [] = []
+going s m (x ∷ xs) =
+    if isSide s (side m x) then x ∷ going s m xs
+    else going s m xs
+
+-- the PreTree of the increasing words of a list that agree in all but their last m bits: "its least word at the root, the rest parted by
+-- the next bit"; with no bit left there is no rest
+unfoldable pub treeOf : ℕ → List ℕ → Tree
+treeOf zero [] = none
+treeOf zero (x ∷ xs) = row 0 (record { key = x }) none none
+treeOf (suc m) [] = none
+treeOf (suc m) (x ∷ xs) = row 0 (record { key = x }) (treeOf m (going left m xs)) (treeOf m (going right m xs))
