@@ -25,3 +25,8 @@ isSide left left = true
 isSide left right = false
 isSide right left = false
 isSide right right = true
+
+-- the bit that sends a word to a side
+abbrev pub bitOf : Side → ℕ
+bitOf left = 0
+bitOf right = 1

@@ -1,0 +1,62 @@
+// The ordered set of words of 1 to 32 bits, as a PreTree in a lent table of rows.
+// This file has the types of document 01, "Header and table" and "Answer numbers"; each call stands in a module of its own.
+
+ghost use mathlib.Core.Path.{_≡_};
+ghost use Rattle.pretree.specs.Reply.{fresh};
+
+// "The header is two numbers, W and the count of words."
+pub struct Header {
+    pub width: u32,
+    pub count: u32,
+}
+
+impl Header {
+    // "A row is three table words: key, left link, right link."
+    pub const ROW: usize = 3;
+    // "A link of 0 means none."
+    pub const NONE: u32 = 0;
+    // "Capacity is the table's length divided by 3, rounded down, and at most 65,535."
+    pub const MOST: usize = 65535;
+
+    // The header of an empty set of words of `width` bits.
+    pub fn fresh(width: u32) -> Self
+        ensures { λ r. ⌜ r ≡ fresh width ⌝ }
+    {
+        Self { width, count: 0 }
+    }
+}
+
+// The kind of answer with its key. `numberOf` and `keyOf`, in specs/Answer.antt, give document 01's number and key for each.
+pub enum Answer {
+    Done,
+    Word(u32),
+    Distance(u32),
+    WrongWidth,
+    WrongHeader,
+    WordTooWide,
+    Damage,
+    Full,
+    ShortBuffer,
+    AlreadyThere,
+    NoSuchWord,
+}
+
+// "Every reply is a struct: the kind of answer with its key, and the two row counts beside it."
+pub struct Reply {
+    pub header: Header,
+    pub answer: Answer,
+    pub rows: u32,
+    pub moved: u32,
+}
+
+// What a push or an erase moves from row to row.
+pub struct Entry {
+    pub key: u32,
+}
+
+// A row of the table.
+pub struct Row {
+    pub entry: Entry,
+    pub left: u32,
+    pub right: u32,
+}
