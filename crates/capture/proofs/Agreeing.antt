@@ -28,8 +28,8 @@ module _ (new earlier : List ℕ) (n : ℕ) where
   at-an-end h =
       ⊎-elim (λ t. let l : length new ≤ n = leb-true (length new) n t in rw (drop-of-length-le new l))
       (λ f.
-        let l : length earlier ≤ n = omega (arith, leb-false (length new) n f) in
-        rw (drop-of-length-le earlier l) (nothing-earlier (drop n new)))
+      let l : length earlier ≤ n = omega (arith, leb-false (length new) n f) in
+      rw (drop-of-length-le earlier l) (nothing-earlier (drop n new)))
       (either (leb (length new) n))
 
   module _ (within : n < min (length new) (length earlier)) where

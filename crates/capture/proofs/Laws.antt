@@ -21,13 +21,14 @@ leading-is-it new earlier =
     record {
       leads = rw l;
       agrees = rw l (agree-so-far new earlier);
-      longest = λ n h q. rw l (agree-no-further new earlier n h q)
+      longest = λ n h q. omega (arith, l, agree-no-further new earlier n h q);
     }
 
 module _ {new earlier : List ℕ} where
   no-longer : {p q : List ℕ} → LeadingPart new earlier p → LeadingPart new earlier q → length p ≤ length q
   no-longer {p} {q} x y =
-      y .longest (length p) (omega (arith, ap length (x .leads), length-take (length p) new)) (sym (x .leads) ∙ x .agrees)
+      let within : length p ≤ length new = omega (arith, ap length (x .leads), length-take (length p) new) in
+      omega (arith, y .longest (length p) within (sym (x .leads) ∙ x .agrees))
 
   -- Two lengths that may be returned are equal.
   pub one-length : {p q : List ℕ} → LeadingPart new earlier p → LeadingPart new earlier q → length p ≡ length q
@@ -57,20 +58,20 @@ module _ (new earlier : List ℕ) where
   -- A capture is stale exactly where it is not empty and the whole of it is returned.
   pub stale-exactly : (isStale new earlier ≡ true) ↔ ((new ≢ []) × (leading new earlier ≡ new))
   unfolding isStale
-  stale-exactly =
-      ( λ s.
+  stale-exactly = (
+    λ s.
         let t = both (ltb 0 (length new)) (eqb (length (leading new earlier)) (length new)) s in
         let e : length (leading new earlier) ≡ length new = eqb-true (length (leading new earlier)) (length new) (t .1) in
-        (λ q. omega (arith, ap length q, ltb-true 0 (length new) (t .0)), cc (leading-is-it new earlier .leads, take-length new))
-      , λ h. rw (lt-ltb 0 (length new) (not-empty new (h .0)), eq-eqb (length (leading new earlier)) (length new) (ap length (h .1)))
-      )
+        (λ q. omega (arith, ap length q, ltb-true 0 (length new) (t .0)), cc (leading-is-it new earlier .leads, take-length new)),
+    λ h. rw (lt-ltb 0 (length new) (not-empty new (h .0)), eq-eqb (length (leading new earlier)) (length new) (ap length (h .1))),
+  )
 
   -- A capture is stale exactly where it is not empty and the earlier one begins with it.
   pub stale-begins : (isStale new earlier ≡ true) ↔ ((new ≢ []) × (new ≡ take (length new) earlier))
-  stale-begins =
-      ( λ s. let w = stale-exactly .0 s in (w .0, cc (leading-is-it new earlier .agrees, w .1))
-      , λ h. stale-exactly .1 (h .0, sym (no-other (record { leads = sym (take-length new); agrees = h .1; longest = λ n l q. l })))
-      )
+  stale-begins = (
+    λ s. let w = stale-exactly .0 s in (w .0, cc (leading-is-it new earlier .agrees, w .1)),
+    λ h. stale-exactly .1 (h .0, sym (no-other (record { leads = sym (take-length new); agrees = h .1; longest = λ n l q. l }))),
+  )
 
   -- A capture longer than the earlier one is never stale.
   pub longer-fresh : length earlier < length new → isStale new earlier ≡ false

@@ -10,8 +10,6 @@ use Rattle.capture.specs.Capture.{agreeing}
 use Rattle.capture.proofs.Agreeing.{at-an-end, at-a-difference, at-an-agreement}
 use Rattle.capture.proofs.count_agreeing.Statement.{statement}
 use Rattle.capture.proofs.count_agreeing.Tie as tie
-use Rattle.capture.proofs.count_agreeing.Reads as reads
-use Rattle.capture.proofs.count_agreeing.Lts as lts
 
 abbrev Inv-loop : tie.InvT-loop
 Inv-loop new earlier most n₀ n =
@@ -22,39 +20,31 @@ Inv-loop new earlier most n₀ n =
 abbrev μ-loop : tie.MeasureT-loop
 μ-loop new earlier most n₀ n = most - n
 
--- src/lib.rt:36:5
 loop-holds : tie.Need-loop-holds Inv-loop μ-loop
 loop-holds c = ⊎-elim (λ w. omega arith) (λ w. omega arith) (c .if1 .came)
 
--- src/lib.rt:37:12
 shared-slice-read-if2 : tie.Need-shared-slice-read-if2 Inv-loop μ-loop
 shared-slice-read-if2 c = omega arith
 
--- src/lib.rt:37:22
 shared-slice-read-if2-2 : tie.Need-shared-slice-read-if2-2 Inv-loop μ-loop
 shared-slice-read-if2-2 c = omega arith
 
--- src/lib.rt:38:13
 returns : tie.Need-returns Inv-loop μ-loop
 returns c =
     let a = c .before .before .before .before .before .before .args in
     omega (arith, at-a-difference (a .new .now) (a .earlier .now) (c .before .before .before .before .loop .n) (omega arith) (c .if2 .taken))
 
--- src/lib.rt:40:9
 add-n : tie.Need-add-n Inv-loop μ-loop
 add-n c = omega arith
 
--- src/lib.rt:36:5
 loop-less : tie.Need-loop-less Inv-loop μ-loop
 loop-less c = omega arith
 
--- src/lib.rt:36:5
 loop-again : tie.Need-loop-again Inv-loop μ-loop
 loop-again c =
     let a = c .before .before .before .before .before .before .args in
     rw add-one (omega (arith, at-an-agreement (a .new .now) (a .earlier .now) (c .before .before .before .before .loop .n) (omega arith) (c .if2 .left)))
 
--- src/lib.rt:27:1
 returns-2 : tie.Need-returns-2 Inv-loop μ-loop
 returns-2 c =
     let a = c .before .before .before .args in

@@ -7,29 +7,21 @@ use Rattle.capture.proofs.Agreeing.{within-new}
 use Rattle.capture.proofs.Laws.{leading-is-it}
 use Rattle.capture.proofs.leading.Statement.{statement}
 use Rattle.capture.proofs.leading.Tie as tie
-use Rattle.capture.proofs.leading.Reads as reads
-use Rattle.capture.proofs.leading.Lts as lts
-use Rattle.capture.proofs.count_agreeing.Reads as count-agreeing-reads
 
--- src/lib.rt:15:9
 count-agreeing-requires : tie.Need-count-agreeing-requires
 count-agreeing-requires c κs = search needs
 
--- src/lib.rt:16:5
 sub-result : tie.Need-sub-result
 sub-result c = search needs
 
--- src/lib.rt:16:5
 part-result-start : tie.Need-part-result-start
 part-result-start c = search needs
 
--- src/lib.rt:16:5
 part-result-end : tie.Need-part-result-end
 part-result-end c =
     let a = c .before .before .before .args in
     omega (arith, within-new (a .new .now) (a .earlier .now))
 
--- src/lib.rt:12:1
 returns : tie.Need-returns
 unfolding leading
 returns c =
