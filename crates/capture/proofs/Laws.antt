@@ -9,14 +9,14 @@ use native.Mathlib.Omega.{arith}
 use borrow.Author.Tests.{ltb-true, lt-ltb, eqb-true, eq-eqb}
 use lib.Dec.{ltb, eqb}
 use lib.ListN.{length, take, length-take}
-use lib.Seq.{take-all, take-length, length-take-le}
+use lib.Seq.{take-length, length-take-le}
 use Rattle.capture.specs.Capture.{agreeing, leading, LeadingPart, isStale}
 use Rattle.capture.proofs.Agreeing.{within-new, agree-so-far, agree-no-further}
 
--- There is a part to return for any two captures, and `leading` computes it.
-pub leading-is-it : (new earlier : List ℕ) → LeadingPart new earlier (leading new earlier)
+-- Any two captures have a part to return, and `leading` computes it.
+pub has-part : (new earlier : List ℕ) → LeadingPart new earlier (leading new earlier)
 unfolding leading
-leading-is-it new earlier =
+has-part new earlier =
     let l : length (take (agreeing new earlier) new) ≡ agreeing new earlier = length-take-le (agreeing new earlier) new (within-new new earlier) in
     record {
       leads = rw l;
@@ -38,9 +38,9 @@ module _ {new earlier : List ℕ} where
   pub one-part : {p q : List ℕ} → LeadingPart new earlier p → LeadingPart new earlier q → p ≡ q
   one-part x y = cc (x .leads, y .leads, one-length x y)
 
-  -- So what is returned is `leading`.
+  -- What is returned is what `leading` computes.
   pub no-other : {p : List ℕ} → LeadingPart new earlier p → p ≡ leading new earlier
-  no-other x = one-part x (leading-is-it new earlier)
+  no-other x = one-part x (has-part new earlier)
 
 both : (a b : Bool) → a && b ≡ true → (a ≡ true) × (b ≡ true)
 both true b h = (refl, h)
@@ -62,14 +62,14 @@ module _ (new earlier : List ℕ) where
     λ s.
         let t = both (ltb 0 (length new)) (eqb (length (leading new earlier)) (length new)) s in
         let e : length (leading new earlier) ≡ length new = eqb-true (length (leading new earlier)) (length new) (t .1) in
-        (λ q. omega (arith, ap length q, ltb-true 0 (length new) (t .0)), cc (leading-is-it new earlier .leads, take-length new)),
+        (λ q. omega (arith, ap length q, ltb-true 0 (length new) (t .0)), cc (has-part new earlier .leads, take-length new)),
     λ h. rw (lt-ltb 0 (length new) (not-empty new (h .0)), eq-eqb (length (leading new earlier)) (length new) (ap length (h .1))),
   )
 
   -- A capture is stale exactly where it is not empty and the earlier one begins with it.
   pub stale-begins : (isStale new earlier ≡ true) ↔ ((new ≢ []) × (new ≡ take (length new) earlier))
   stale-begins = (
-    λ s. let w = stale-exactly .0 s in (w .0, cc (leading-is-it new earlier .agrees, w .1)),
+    λ s. let w = stale-exactly .0 s in (w .0, cc (has-part new earlier .agrees, w .1)),
     λ h. stale-exactly .1 (h .0, sym (no-other (record { leads = sym (take-length new); agrees = h .1; longest = λ n l q. l }))),
   )
 

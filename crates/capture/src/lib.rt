@@ -1,14 +1,13 @@
-// Tells a new capture from one that the bench already had. A generator falls silent, the buffer it was to fill still holds the
-// bytes of the chip before, and those bytes pass every test a second time: this is how the laboratory lost its bet. So hold each
-// capture against the earlier one before it is tested. `stale` says whether all of it was there before; `leading` shows how much.
+// Tells a new capture from one that the bench had before. This is what lost the laboratory its bet: a generator falls silent, its
+// buffer still holds the bytes of the chip before, and they are taken for its own. So hold each capture against the earlier one
+// before it is tested. `stale` says whether nothing new came, and `leading` shows the bytes that were there already.
 //
-// Document 01, "The ways": "The comparison returns that leading part of the new capture which agrees with the earlier capture
-// from byte 0, as long as possible; it may be empty. A capture is stale if it is not empty and the whole of it is returned."
+// Document 01, "The ways", the last point; specs/Capture.antt quotes it, and says what each answer is.
 ghost use mathlib.Core.Path.{_≡_};
 ghost use Rattle.capture.specs.Capture.{agreeing, LeadingPart, isStale};
 
-// The part of `new` that was in `earlier` already, from byte 0 on. The two are lent for times of their own: the earlier capture
-// may be given up while the part, which is a part of the new one, is still in use.
+// The part of `new`, from byte 0, that was in `earlier` already. Each capture is lent for a time of its own: the earlier one may
+// be given up while the part, which belongs to the new one, is still in use.
 pub fn leading<'n, 'e>(new: &'n [u8], earlier: &'e [u8]) -> &'n [u8]
     ensures { λ r. ⌜ LeadingPart (now (new .entry)) (now (earlier .entry)) (now r) ⌝ }
 {
@@ -16,7 +15,7 @@ pub fn leading<'n, 'e>(new: &'n [u8], earlier: &'e [u8]) -> &'n [u8]
     &new[0..n]
 }
 
-// Whether nothing new came: every byte of `new`, and there is one, was in `earlier` at the same place.
+// Whether `new` is old: it has a byte, and each of its bytes was at the same place in `earlier`.
 pub fn stale(new: &[u8], earlier: &[u8]) -> bool
     ensures { λ r. ⌜ r ≡ isStale (now (new .entry)) (now (earlier .entry)) ⌝ }
 {

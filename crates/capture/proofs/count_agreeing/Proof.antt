@@ -1,6 +1,6 @@
--- `capture::count_agreeing` meets its contract. The loop's invariant: the number to return is what is passed and what agrees
--- after it. Assumes nothing.
-use Prim.Native.Nat.{ℕ, _≤_, _+_, _-_, min}
+-- `capture::count_agreeing` meets its contract. The loop's invariant: the number to return is the bytes passed and those that
+-- agree after them. Assumes nothing.
+use Prim.Native.Nat.{_≤_, _+_, _-_, min}
 use native.Mathlib.Omega.{arith}
 use native.Mathlib.Numerals.{add-one}
 use mathlib.Core.Path.{_≡_}

@@ -4,7 +4,7 @@ use native.Mathlib.Omega.{arith}
 use native.Mathlib.Nat.{sub-zero}
 use Rattle.capture.specs.Capture.{leading}
 use Rattle.capture.proofs.Agreeing.{within-new}
-use Rattle.capture.proofs.Laws.{leading-is-it}
+use Rattle.capture.proofs.Laws.{has-part}
 use Rattle.capture.proofs.leading.Statement.{statement}
 use Rattle.capture.proofs.leading.Tie as tie
 
@@ -26,7 +26,7 @@ returns : tie.Need-returns
 unfolding leading
 returns c =
     let a = c .before .before .before .before .args in
-    rw (sub-zero, c .before .count-agreeing .ensures) (leading-is-it (a .new .now) (a .earlier .now))
+    rw (sub-zero, c .before .count-agreeing .ensures) (has-part (a .new .now) (a .earlier .now))
 
 pub leading-spec : {M : Type 1} → statement M
 leading-spec =

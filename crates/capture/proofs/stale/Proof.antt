@@ -1,6 +1,8 @@
 -- `capture::stale` meets its contract: what `leading` returns is the part that the definition computes. Assumes nothing.
 use borrow.Author.Needs.{needs}
 use borrow.Author.Tests.{lt-ltb, le-ltb}
+use native.Mathlib.Omega.{arith}
+use lib.ListN.{length}
 use Rattle.capture.specs.Capture.{isStale}
 use Rattle.capture.proofs.Laws.{no-other}
 use Rattle.capture.proofs.stale.Statement.{statement}
@@ -11,11 +13,15 @@ leading-requires c κs = search needs
 
 returns : tie.Need-returns
 unfolding isStale
-returns c = rw (no-other (c .leading .ensures), lt-ltb 0 _ (c .before .if1 .taken))
+returns c =
+    let a = c .before .before .before .before .args in
+    rw (no-other (c .leading .ensures), lt-ltb 0 (length (a .new .now)) (omega arith))
 
 returns-2 : tie.Need-returns-2
 unfolding isStale
-returns-2 c = rw (le-ltb 0 _ (c .if1 .left))
+returns-2 c =
+    let a = c .before .before .before .args in
+    rw (le-ltb 0 (length (a .new .now)) (omega arith))
 
 pub stale-spec : {M : Type 1} → statement M
 stale-spec = tie.close (tie.spec leading-requires returns returns-2)
