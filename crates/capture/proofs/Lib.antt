@@ -1,0 +1,2 @@
+mod Agreeing
+pub mod Laws

@@ -1,0 +1,34 @@
+-- `capture::leading` meets its contract: the bytes counted are the part that `leading` computes. Assumes nothing.
+use borrow.Author.Needs.{needs}
+use native.Mathlib.Omega.{arith}
+use native.Mathlib.Nat.{sub-zero}
+use Rattle.capture.specs.Capture.{leading}
+use Rattle.capture.proofs.Agreeing.{within-new}
+use Rattle.capture.proofs.Laws.{has-part}
+use Rattle.capture.proofs.leading.Statement.{statement}
+use Rattle.capture.proofs.leading.Tie as tie
+
+count-agreeing-requires : tie.Need-count-agreeing-requires
+count-agreeing-requires c κs = search needs
+
+sub-result : tie.Need-sub-result
+sub-result c = search needs
+
+part-result-start : tie.Need-part-result-start
+part-result-start c = search needs
+
+part-result-end : tie.Need-part-result-end
+part-result-end c =
+    let a = c .before .before .before .args in
+    omega (arith, within-new (a .new .now) (a .earlier .now))
+
+returns : tie.Need-returns
+unfolding leading
+returns c =
+    let a = c .before .before .before .before .args in
+    rw (sub-zero, c .before .count-agreeing .ensures) (has-part (a .new .now) (a .earlier .now))
+
+pub leading-spec : {M : Type 1} → statement M
+leading-spec =
+    tie.close
+    (tie.spec count-agreeing-requires sub-result part-result-start part-result-end returns)

@@ -1,0 +1,42 @@
+// Tells a new capture from one that the bench had before. This is what lost the laboratory its bet: a generator falls silent, its
+// buffer still holds the bytes of the chip before, and they are taken for its own. So hold each capture against the earlier one
+// before it is tested. `stale` says whether nothing new came, and `leading` shows the bytes that were there already.
+//
+// Document 01, "The ways", the last point; specs/Capture.antt quotes it, and says what each answer is.
+ghost use mathlib.Core.Path.{_≡_};
+ghost use Rattle.capture.specs.Capture.{agreeing, LeadingPart, isStale};
+
+// The part of `new`, from byte 0, that was in `earlier` already. Each capture is lent for a time of its own: the earlier one may
+// be given up while the part, which belongs to the new one, is still in use.
+pub fn leading<'n, 'e>(new: &'n [u8], earlier: &'e [u8]) -> &'n [u8]
+    ensures { λ r. ⌜ LeadingPart (now (new .entry)) (now (earlier .entry)) (now r) ⌝ }
+{
+    let n = count_agreeing(new, earlier);
+    &new[0..n]
+}
+
+// Whether `new` is old: it has a byte, and each of its bytes was at the same place in `earlier`.
+pub fn stale(new: &[u8], earlier: &[u8]) -> bool
+    ensures { λ r. ⌜ r ≡ isStale (now (new .entry)) (now (earlier .entry)) ⌝ }
+{
+    0 < new.len() && leading(new, earlier).len() == new.len()
+}
+
+// How many bytes agree before the first that differs, or before the end of the shorter capture.
+fn count_agreeing(new: &[u8], earlier: &[u8]) -> usize
+    ensures { λ r. ⌜ r ≡ agreeing (now (new .entry)) (now (earlier .entry)) ⌝ }
+{
+    let most = if new.len() < earlier.len() {
+        new.len()
+    } else {
+        earlier.len()
+    };
+    let mut n: usize = 0;
+    while n < most {
+        if new[n] != earlier[n] {
+            return n;
+        }
+        n += 1;
+    }
+    n
+}
