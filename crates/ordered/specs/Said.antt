@@ -1,5 +1,5 @@
--- The ordered dictionary in the words of source 004: each sentence about an operation is a proposition here, which speaks of the elements
--- of the set S alone. proofs/Dictionary.antt proves it of the operation.
+-- The ordered dictionary in the words of source 004: what it says of each operation, as a proposition about the elements of the set S.
+-- proofs/Dictionary.antt proves it of the operation.
 use Prim.Native.Nat.{ℕ, _≤_}
 use mathlib.Core.Path.{_≡_}
 use mathlib.Core.Logic.{_↔_, _⊎_}
@@ -33,7 +33,7 @@ pub data Foremost (before : ℕ → ℕ → Type 0) (p : ℕ → Bool) (s : List
 -- "min(), which returns the [..] minimum element of S": `Least anything s`.
 -- "successor(x), which returns the smallest element of S greater than x": `Least (ltb x) s`
 abbrev pub Least : (ℕ → Bool) → List ℕ → Perhaps ℕ → Type 0
-Least = Foremost (λ y z. y ≤ z)
+Least = Foremost _≤_
 
 -- "max() [..], which returns the maximum [..] element of S": `Greatest anything s`.
 -- "predecessor(x), which returns the largest element of S smaller than x": `Greatest (λ y. ltb y x) s`
