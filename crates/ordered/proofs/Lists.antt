@@ -1,6 +1,6 @@
 -- Laws of tests, of the elements of lists, of increasing lists, and of what is sought in a list: for all that speaks of sets.
 use Prim.Native.Nat.{ℕ, _≤_, _<_}
-use mathlib.Core.Path.{_≡_, refl, sym}
+use mathlib.Core.Path.{_≡_, refl}
 use mathlib.Core.Logic.{_↔_, _⊎_, ⊎-elim}
 use mathlib.Core.Bool.{Bool, true, false, _||_, or-assoc}
 use mathlib.Core.List.{List, [], _∷_, _++_}
@@ -71,10 +71,11 @@ increasing-parts [] t h = (none-increasing, h, λ x y m n. absurd (List·Memᴰ�
 increasing-parts (x ∷ xs) t (one-increasing a h) =
     let parts = increasing-parts xs t h in
     let above : Above x xs = less-above xs (λ y m. above-less a (Memᴰ·append-left t m)) in
-    let below : (z : ℕ) → z ∈ t → x < z = λ z n. above-less a (Memᴰ·append-right xs n) in
-    let across : (y z : ℕ) → y ∈ x ∷ xs → z ∈ t → y < z =
-    λ y z m n. ⊎-elim (λ e. rw e (below z n)) (λ k. parts .2 y z k n) (List·Memᴰ·cases-cons m) in
-    (one-increasing above (parts .0), parts .1, across)
+    let below : (z : ℕ) → z ∈ t → x < z = λ z n. above-less a (Memᴰ·append-right xs n) in (
+      one-increasing above (parts .0),
+      parts .1,
+      λ y z m n. ⊎-elim (λ e. rw e (below z n)) (λ k. parts .2 y z k n) (List·Memᴰ·cases-cons m),
+    )
 
 -- a word is looked up in two lists joined by looking it up in both
 pub lookup-append : (x : ℕ) (s t : List ℕ) → lookup x (s ++ t) ≡ (lookup x s || lookup x t)
