@@ -3,6 +3,7 @@
 pub mod Such
 pub mod Word
 pub mod Dictionary
+pub mod Said
 pub mod Tree
 pub mod Way
 pub mod Reading

@@ -1,0 +1,201 @@
+-- The operations of the ordered dictionary do what source 004 says of them, in its order; and its words fix each answer, and a set.
+use Prim.Native.Nat.{ℕ, _<_}
+use mathlib.Core.Path.{_≡_, refl, sym, ap, ap₂}
+use mathlib.Core.Logic.{_↔_, _⊎_, inl, inr, ⊎-elim, ⊎-swap, Iff·symm, Iff·trans}
+use mathlib.Core.Bool.{Bool, true, false, _||_, false≢true}
+use mathlib.Core.List.{List, [], _∷_}
+use mathlib.Core.List.{List·Memᴰ·head, List·Memᴰ·tail, List·Memᴰ·cases-cons, List·Memᴰ·not-nil, List·Memᴰ·eq-of-singleton, Memᴰ·cast}
+use native.Mathlib.Nat.{le-antisymm, le-of-lt}
+use native.Mathlib.Omega.{arith}
+use lib.Dec.{ltb, eqb}
+use borrow.Author.Tests.{eqb-true, eqb-false, eq-eqb}
+use Rattle.ordered.specs.Such.{Perhaps, such, first-of, only-if, first-such, last-such, anything}
+use Rattle.ordered.specs.Dictionary.{Above, none-above, one-above, Increasing, none-increasing, one-increasing}
+use Rattle.ordered.specs.Dictionary.{insert, is-empty, lookup, delete, max, min, successor, predecessor}
+use Rattle.ordered.specs.Said.{_∈_, Adds, Whether, Removes, Foremost, it-is, none-is, Least, Greatest}
+use Rattle.ordered.proofs.Lists.{by-test, by-order, cons-elements, append-elements}
+use Rattle.ordered.proofs.Lists.{above-less, less-above, above-smaller, head-least}
+
+-- an element is added by leaving the set as it is
+element-adds : {x : ℕ} {s : List ℕ} → x ∈ s → Adds x s s
+element-adds m y = (λ n. inr n, ⊎-elim (λ e. Memᴰ·cast e m) (λ n. n))
+
+-- a word is added to a set by adding it to the tail
+tail-adds : {x : ℕ} (y : ℕ) {s t : List ℕ} → Adds x s t → Adds x (y ∷ s) (y ∷ t)
+tail-adds {x} y {s} {t} h z = (
+  λ m. there (List·Memᴰ·cases-cons m),
+  ⊎-elim (λ e. List·Memᴰ·tail (h z .1 (inl e))) (λ m. back (List·Memᴰ·cases-cons m)),
+)
+  where
+    there : (z ≡ y) ⊎ (z ∈ t) → (z ≡ x) ⊎ (z ∈ y ∷ s)
+    there (inl e) = inr (List·Memᴰ·head e)
+    there (inr m) = ⊎-elim (λ e. inl e) (λ n. inr (List·Memᴰ·tail n)) (h z .0 m)
+
+    back : (z ≡ y) ⊎ (z ∈ s) → z ∈ y ∷ t
+    back (inl e) = List·Memᴰ·head e
+    back (inr m) = List·Memᴰ·tail (h z .1 (inr m))
+
+-- "insert(x), which adds x to S"
+pub insert-adds : (x : ℕ) (s : List ℕ) → Adds x s (insert x s)
+unfolding insert
+insert-adds x [] = λ z. cons-elements
+insert-adds x (y ∷ ys) =
+    by-order (Adds x (y ∷ ys)) x y
+    (λ less z. cons-elements)
+    (λ equal. element-adds (List·Memᴰ·head equal))
+    (λ greater. tail-adds y (insert-adds x ys))
+
+-- and leaves a set
+pub insert-increasing : (x : ℕ) {s : List ℕ} → Increasing s → Increasing (insert x s)
+unfolding insert
+insert-increasing x none-increasing = one-increasing none-above none-increasing
+insert-increasing x (one-increasing {x = y} {xs = ys} a h) =
+    by-order Increasing x y
+    (λ less. one-increasing (one-above less (above-smaller (le-of-lt less) a)) (one-increasing a h))
+    (λ equal. one-increasing a h)
+    (λ greater. one-increasing (above greater) (insert-increasing x h))
+  where
+    above : y < x → Above y (insert x ys)
+    above greater = less-above (insert x ys) (λ z m. ⊎-elim (λ e. rw e greater) (above-less a) (insert-adds x ys z .0 m))
+
+-- "is-empty(), which returns whether S = ∅"
+pub is-empty-whether : (s : List ℕ) → Whether (s ≡ []) (is-empty s)
+unfolding is-empty
+is-empty-whether [] = (λ e. refl, λ e. refl)
+is-empty-whether (x ∷ xs) = (λ e. absurd (false≢true e), λ e. cc)
+
+-- whether one of two things holds
+whether-either : {P Q : Type 0} (b c : Bool) → Whether P b → Whether Q c → Whether (P ⊎ Q) (b || c)
+whether-either true c h k = (λ e. inl (h .0 refl), λ d. refl)
+whether-either false c h k = (λ e. inr (k .0 e), ⊎-elim (λ d. absurd (false≢true (h .1 d))) (k .1))
+
+-- "lookup(x), which returns whether x ∈ S"
+pub lookup-whether : (x : ℕ) (s : List ℕ) → Whether (x ∈ s) (lookup x s)
+unfolding lookup
+lookup-whether x [] = (λ e. absurd (false≢true e), λ m. absurd (List·Memᴰ·not-nil m))
+lookup-whether x (y ∷ ys) =
+    Iff·trans (whether-either (eqb x y) (lookup x ys) (eqb-true x y, eq-eqb x y) (lookup-whether x ys)) (Iff·symm cons-elements)
+
+-- x is removed from a set with x at its head by removing it from the tail
+head-removes : {x y : ℕ} {s t : List ℕ} → x ≡ y → Removes x s t → Removes x (y ∷ s) t
+head-removes q h z = (
+  λ m. (List·Memᴰ·tail (h z .0 m .0), h z .0 m .1),
+  λ k. ⊎-elim (λ e. absurd (k .1 (cc))) (λ m. h z .1 (m, k .1)) (List·Memᴰ·cases-cons (k .0)),
+)
+
+-- and from a set with another head
+tail-removes : {x y : ℕ} {s t : List ℕ} → (x ≡ y → ⊥) → Removes x s t → Removes x (y ∷ s) (y ∷ t)
+tail-removes n h z = (
+  λ m. ⊎-elim (λ e. (List·Memᴰ·head e, λ q. n (cc))) (λ k. (List·Memᴰ·tail (h z .0 k .0), h z .0 k .1)) (List·Memᴰ·cases-cons m),
+  λ k. ⊎-elim (λ e. List·Memᴰ·head e) (λ m. List·Memᴰ·tail (h z .1 (m, k .1))) (List·Memᴰ·cases-cons (k .0)),
+)
+
+-- "delete(x), which removes x from S"
+pub delete-removes : (x : ℕ) (s : List ℕ) → Removes x s (delete x s)
+unfolding delete
+delete-removes x [] = λ z. (λ m. absurd (List·Memᴰ·not-nil m), λ k. k .0)
+delete-removes x (y ∷ ys) =
+    by-test (Removes x (y ∷ ys)) (eqb x y)
+    (λ e. head-removes (eqb-true x y e) (delete-removes x ys))
+    (λ d. tail-removes (eqb-false x y d) (delete-removes x ys))
+
+-- and leaves a set
+pub delete-increasing : (x : ℕ) {s : List ℕ} → Increasing s → Increasing (delete x s)
+unfolding delete
+delete-increasing x none-increasing = none-increasing
+delete-increasing x (one-increasing {x = y} {xs = ys} a h) =
+    by-test Increasing (eqb x y) (λ e. delete-increasing x h) (λ d. one-increasing above (delete-increasing x h))
+  where
+    above : Above y (delete x ys)
+    above = less-above (delete x ys) (λ z m. above-less a (delete-removes x ys z .0 m .0))
+
+-- the foremost of two sets, all of one before all of the other, is the first of their foremost that there is
+foremost-of-both :
+    {before : ℕ → ℕ → Type 0} {p : ℕ → Bool} {s t u : List ℕ} {a b : Perhaps ℕ}
+    → Foremost before p s a → Foremost before p t b → ((x y : ℕ) → x ∈ s → y ∈ t → before x y)
+    → ((z : ℕ) → z ∈ u ↔ ((z ∈ s) ⊎ (z ∈ t))) → Foremost before p u (first-of a b)
+foremost-of-both (it-is {y} m e h) k across union =
+    it-is (union y .1 (inl m)) e (λ z n d. ⊎-elim (λ i. h z i d) (λ i. across y z m i) (union z .0 n))
+foremost-of-both (none-is h) (it-is {y} m e k) across union =
+    it-is (union y .1 (inr m)) e (λ z n d. ⊎-elim (λ i. absurd (h z i d)) (λ i. k z i d) (union z .0 n))
+foremost-of-both (none-is h) (none-is k) across union = none-is (λ z n d. ⊎-elim (λ i. h z i d) (λ i. k z i d) (union z .0 n))
+
+-- the foremost of a set of one word
+foremost-of-one :
+    {before : ℕ → ℕ → Type 0} (p : ℕ → Bool) {x : ℕ} → ((y : ℕ) → y ≡ x → before x y)
+    → Foremost before p (x ∷ []) (only-if p (such x))
+foremost-of-one {before} p {x} itself =
+    by-test (Foremost before p (x ∷ [])) (p x)
+    (λ e. it-is (List·Memᴰ·head refl) e (λ z m d. itself z (List·Memᴰ·eq-of-singleton m)))
+    (λ e. none-is (λ z m d. false≢true (cc (List·Memᴰ·eq-of-singleton m))))
+
+-- the first that passes a test is the least
+pub first-such-least : (p : ℕ → Bool) {s : List ℕ} → Increasing s → Least p s (first-such p s)
+unfolding first-such
+first-such-least p none-increasing = none-is (λ z m e. List·Memᴰ·not-nil m)
+first-such-least p (one-increasing {x} {xs} a h) =
+    foremost-of-both (foremost-of-one p (λ y e. omega arith)) (first-such-least p h)
+    (λ y z m n. omega (arith, List·Memᴰ·eq-of-singleton m, above-less a n))
+    (λ z. append-elements (x ∷ []) xs)
+
+-- the last is the greatest
+pub last-such-greatest : (p : ℕ → Bool) {s : List ℕ} → Increasing s → Greatest p s (last-such p s)
+unfolding last-such
+last-such-greatest p none-increasing = none-is (λ z m e. List·Memᴰ·not-nil m)
+last-such-greatest p (one-increasing {x} {xs} a h) =
+    foremost-of-both (last-such-greatest p h) (foremost-of-one p (λ y e. omega arith))
+    (λ y z m n. omega (arith, List·Memᴰ·eq-of-singleton n, above-less a m))
+    (λ z. Iff·trans (append-elements (x ∷ []) xs) (⊎-swap, ⊎-swap))
+
+-- "max() [..], which returns the maximum [..] element of S"
+pub max-greatest : {s : List ℕ} → Increasing s → Greatest anything s (max s)
+unfolding max
+max-greatest h = last-such-greatest anything h
+
+-- "min(), which returns the [..] minimum element of S"
+pub min-least : {s : List ℕ} → Increasing s → Least anything s (min s)
+unfolding min
+min-least h = first-such-least anything h
+
+-- "successor(x), which returns the smallest element of S greater than x"
+pub successor-least : (x : ℕ) {s : List ℕ} → Increasing s → Least (ltb x) s (successor x s)
+unfolding successor
+successor-least x h = first-such-least (ltb x) h
+
+-- "predecessor(x), which returns the largest element of S smaller than x"
+pub predecessor-greatest : (x : ℕ) {s : List ℕ} → Increasing s → Greatest (λ y. ltb y x) s (predecessor x s)
+unfolding predecessor
+predecessor-greatest x h = last-such-greatest (λ y. ltb y x) h
+
+-- where no two words stand before each other, one answer at most is the foremost
+foremost-unique :
+    {before : ℕ → ℕ → Type 0} {p : ℕ → Bool} {s : List ℕ} {a b : Perhaps ℕ}
+    → ((y z : ℕ) → before y z → before z y → y ≡ z) → Foremost before p s a → Foremost before p s b → a ≡ b
+foremost-unique same (it-is {y} m e h) (it-is {y = z} n d k) = ap such (same y z (h z n d) (k y m e))
+foremost-unique same (it-is {y} m e h) (none-is k) = absurd (k y m e)
+foremost-unique same (none-is h) (it-is {y} m e k) = absurd (h y m e)
+foremost-unique same (none-is h) (none-is k) = refl
+
+-- one answer at most is the least
+pub least-unique : {p : ℕ → Bool} {s : List ℕ} {a b : Perhaps ℕ} → Least p s a → Least p s b → a ≡ b
+least-unique h k = foremost-unique (λ y z l r. le-antisymm l r) h k
+
+-- one answer at most is the greatest
+pub greatest-unique : {p : ℕ → Bool} {s : List ℕ} {a b : Perhaps ℕ} → Greatest p s a → Greatest p s b → a ≡ b
+greatest-unique h k = foremost-unique (λ y z l r. le-antisymm r l) h k
+
+-- of two sets with equal heads, one among the other, the tails are so too
+tail-among : {x y : ℕ} {s t : List ℕ} → x ≡ y → Above x s → ((z : ℕ) → z ∈ x ∷ s → z ∈ y ∷ t) → (z : ℕ) → z ∈ s → z ∈ t
+tail-among q a h z m =
+    ⊎-elim (λ e. absurd (omega (arith, above-less a m))) (λ n. n) (List·Memᴰ·cases-cons (h z (List·Memᴰ·tail m)))
+
+-- two increasing lists with the same elements are equal: a set is fixed by its elements
+pub same-elements : {s t : List ℕ} → Increasing s → Increasing t → ((z : ℕ) → z ∈ s ↔ z ∈ t) → s ≡ t
+same-elements none-increasing none-increasing same = refl
+same-elements none-increasing (one-increasing {x = y} b k) same = absurd (List·Memᴰ·not-nil (same y .1 (List·Memᴰ·head refl)))
+same-elements (one-increasing {x} a h) none-increasing same = absurd (List·Memᴰ·not-nil (same x .0 (List·Memᴰ·head refl)))
+same-elements (one-increasing {x} {xs} a h) (one-increasing {x = y} {xs = ys} b k) same =
+    ap₂ _∷_ heads (same-elements h k (λ z. (tail-among heads a (λ w. same w .0) z, tail-among (sym heads) b (λ w. same w .1) z)))
+  where
+    heads : x ≡ y
+    heads = le-antisymm (head-least a (same y .1 (List·Memᴰ·head refl))) (head-least b (same x .0 (List·Memᴰ·head refl)))
