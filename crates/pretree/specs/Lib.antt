@@ -8,4 +8,5 @@ pub mod Find
 pub mod Add
 pub mod Del
 pub mod Whole
+pub mod Walk
 pub mod Starred

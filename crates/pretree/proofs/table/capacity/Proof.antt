@@ -1,0 +1,28 @@
+use borrow.Author.Needs.{needs}
+use native.Mathlib.Omega.{arith}
+use Rattle.pretree.specs.Table.{capacity}
+use Rattle.pretree.proofs.table.capacity.Statement.{statement}
+use Rattle.pretree.proofs.table.capacity.Tie as tie
+use Rattle.pretree.proofs.table.capacity.Reads as reads
+use Rattle.pretree.proofs.table.capacity.Lts as lts
+
+-- src/table.rt:29:9
+cast-result : tie.Need-cast-result
+cast-result c = search needs
+
+-- src/table.rt:31:9
+cast-result-2 : tie.Need-cast-result-2
+cast-result-2 c = search needs
+
+-- src/table.rt:24:1
+returns : tie.Need-returns
+unfolding capacity
+returns c = omega arith
+
+-- src/table.rt:24:1
+returns-2 : tie.Need-returns-2
+unfolding capacity
+returns-2 c = omega arith
+
+pub capacity-spec : {M : Type 1} → statement M
+capacity-spec = tie.close (tie.spec cast-result cast-result-2 returns returns-2)

@@ -1,0 +1,58 @@
+// The rows of a lent table: where one stands, and the checks of header and word that every call makes first.
+
+use crate::Entry;
+use crate::Header;
+use crate::Row;
+ghost use mathlib.Core.Path.{_≡_};
+ghost use Prim.Native.Nat.{_<_, _≤_};
+ghost use Rattle.pretree.specs.Table.{capacity, rowAt};
+ghost use Rattle.pretree.specs.Reply.{wrong-header, too-wide};
+
+// "Row i begins at table word 3i."
+pub fn row_at(table: &[u32], i: u32) -> Row
+    requires { ⌜ i < capacity (now table) ⌝ }
+    ensures { λ r. ⌜ r ≡ rowAt (now (table .entry)) i ⌝ }
+{
+    let at = Header::ROW * (i as usize);
+    Row {
+        entry: Entry { key: table[at] },
+        left: table[at + 1],
+        right: table[at + 2],
+    }
+}
+
+// "Capacity is the table's length divided by 3, rounded down, and at most 65,535."
+pub fn capacity(table: &[u32]) -> u32
+    ensures { λ r. ⌜ r ≡ capacity (now (table .entry)) ⌝ }
+{
+    let whole = table.len() / Header::ROW;
+    if whole < Header::MOST {
+        whole as u32
+    } else {
+        Header::MOST as u32
+    }
+}
+
+impl Header {
+    // Answer 2.
+    pub fn is_wrong(self, table: &[u32]) -> bool
+        ensures { λ r. ⌜ r ≡ wrong-header self (now (table .entry)) ⌝ }
+    {
+        let width = self.width;
+        if width == 0 {
+            return true;
+        }
+        if 32 < width {
+            return true;
+        }
+        capacity(table) < self.count
+    }
+
+    // Answer 3.
+    pub fn is_exceeded_by(self, word: u32) -> bool
+        requires { ⌜ self .width ≤ 32 ⌝ }
+        ensures { λ r. ⌜ r ≡ too-wide self word ⌝ }
+    {
+        1u64 << self.width <= word as u64
+    }
+}
