@@ -4,6 +4,7 @@ pub mod Such
 pub mod Word
 pub mod Dictionary
 pub mod Tree
+pub mod Proper
 pub mod Way
 pub mod Reading
 pub mod Change
