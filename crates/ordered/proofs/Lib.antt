@@ -1,2 +1,4 @@
 pub mod Examples
 pub mod Bits
+pub mod Parts
+pub mod OneTree
