@@ -2,3 +2,5 @@ pub mod Examples
 pub mod Bits
 pub mod Parts
 pub mod OneTree
+pub mod Ways
+pub mod Answers

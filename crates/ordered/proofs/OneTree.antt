@@ -92,10 +92,10 @@ module _ (m path low : ℕ) (l r : Tree) (parts : (s : Side) → Proper m (path 
   fits s = keys-fit m (path * 2 + bitOf s) low (part s l r) (parts s)
 
   -- the words of the left part are below those of the right part
-  parts-apart : All (λ x. Above x (listing r)) (listing l)
+  pub parts-apart : All (λ x. Above x (listing r)) (listing l)
   parts-apart = all-map (λ x f. all-above (all-map (λ y g. left-below-right m path x y (f .on-path) (g .on-path)) (fits right))) (fits left)
 
-  parts-above : All (λ x. low ≤ x) (listing l ++ listing r)
+  pub parts-above : All (λ x. low ≤ x) (listing l ++ listing r)
   parts-above = all-append (all-map (λ x f. f .not-below) (fits left)) (all-map (λ y g. g .not-below) (fits right))
 
   going-to : (s : Side) → All (λ x. side m x ≡ s) (listing (part s l r))

@@ -1,7 +1,7 @@
 -- Laws of lists: what holds of every element, what is sought in a list, and both where the list is joined from parts.
 use Prim.Native.Nat.{ℕ, suc, _+_, _<_}
 use mathlib.Core.Path.{_≡_, refl, sym, ap, ap₂, _∙_}
-use mathlib.Core.Bool.{Bool, true, false, _||_, or-assoc}
+use mathlib.Core.Bool.{Bool, true, false, _||_, or-assoc, or-false}
 use mathlib.Core.List.{List, [], _∷_, _++_, List·Memᴰ, List·Memᴰ·head, List·Memᴰ·tail}
 use lib.Dec.{eqb}
 use Rattle.ordered.specs.Such.{if_then_else_, Perhaps, no-such, such, first-of, only-if, first-such, last-such, anything}
@@ -88,23 +88,38 @@ module _ {A : Type 0} where
   no-last [] none-all = refl
   no-last (x ∷ xs) (one-all h hs) = rw (h, no-last xs hs)
 
-  -- what is found, if there is such a thing, is one of the list
+  -- what is sought among three parts, of which the outer ones wholly pass or fail the test
+  module _ (p : A → Bool) (xs ys zs : List A) where
+    pub first-between : All (λ x. p x ≡ false) xs → All (λ z. p z ≡ true) zs → first-such p (xs ++ (ys ++ zs)) ≡ first-of (first-such p ys) (first-such anything zs)
+    first-between fail pass = rw (first-such-append p xs (ys ++ zs), no-first xs fail, first-such-append p ys zs, same-first zs pass)
+
+    pub last-between : All (λ x. p x ≡ true) xs → All (λ z. p z ≡ false) zs → last-such p (xs ++ (ys ++ zs)) ≡ first-of (last-such p ys) (last-such anything xs)
+    last-between pass fail = rw (last-such-append p xs (ys ++ zs), last-such-append p ys zs, no-last zs fail, same-last xs pass)
+
   abbrev pub If-such : (A → Type 0) → Perhaps A → Type 0
   If-such P no-such = Unit {0}
   If-such P (such x) = P x
 
-  pub last-such-all : {P : A → Type 0} (p : A → Bool) {xs : List A} → All P xs → If-such P (last-such p xs)
+  -- what is found, if there is such a thing, is one of the list and passes the test
+  pub last-such-all : {P : A → Type 0} (p : A → Bool) {xs : List A} → All P xs → If-such (λ x. P x × (p x ≡ true)) (last-such p xs)
   unfolding last-such
   last-such-all p none-all = tt
   last-such-all {P} p (one-all {x} {xs} h hs) = later (last-such p xs) (last-such-all p hs)
     where
-      here : (b : Bool) → If-such P (if b then such x else no-such)
-      here true = h
-      here false = tt
+      here : (b : Bool) → p x ≡ b → If-such (λ y. P y × (p y ≡ true)) (if b then such x else no-such)
+      here true passes = (h, passes)
+      here false fails = tt
 
-      later : (q : Perhaps A) → If-such P q → If-such P (first-of q (only-if p (such x)))
-      later no-such i = here (p x)
-      later (such y) i = i
+      later : (q : Perhaps A) → If-such (λ y. P y × (p y ≡ true)) q → If-such (λ y. P y × (p y ≡ true)) (first-of q (only-if p (such x)))
+      later no-such found = here (p x) refl
+      later (such y) found = found
+
+  pub last-such-one : {P : A → Type 0} (p : A → Bool) {xs : List A} → All P xs → If-such P (last-such p xs)
+  last-such-one {P} p {xs} hs = only (last-such p xs) (last-such-all p hs)
+    where
+      only : (q : Perhaps A) → If-such (λ y. P y × (p y ≡ true)) q → If-such P q
+      only no-such found = tt
+      only (such y) found = found .0
 
 pub lookup-append : (x : ℕ) (xs ys : List ℕ) → lookup x (xs ++ ys) ≡ (lookup x xs || lookup x ys)
 unfolding lookup
@@ -115,3 +130,7 @@ pub no-lookup : (x : ℕ) (xs : List ℕ) → All (λ y. eqb x y ≡ false) xs �
 unfolding lookup
 no-lookup x [] none-all = refl
 no-lookup x (y ∷ ys) (one-all h hs) = rw (h, no-lookup x ys hs)
+
+pub lookup-between : (x : ℕ) (xs ys zs : List ℕ) → All (λ y. eqb x y ≡ false) xs → All (λ y. eqb x y ≡ false) zs → lookup x (xs ++ (ys ++ zs)) ≡ lookup x ys
+lookup-between x xs ys zs fail fail′ =
+    rw (lookup-append x xs (ys ++ zs), no-lookup x xs fail, lookup-append x ys zs, no-lookup x zs fail′) (or-false (lookup x ys))
