@@ -5,6 +5,7 @@ pub mod Word
 pub mod Dictionary
 pub mod Said
 pub mod Tree
+pub mod Proper
 pub mod Way
 pub mod Reading
 pub mod Change

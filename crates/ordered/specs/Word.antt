@@ -12,6 +12,10 @@ abbrev pub sideOf : ℕ → Side
 sideOf zero = left
 sideOf (suc b) = right
 
+abbrev pub bitOf : Side → ℕ
+bitOf left = 0
+bitOf right = 1
+
 -- the side to which the deciding bit of k sends it from a row with m + 1 bits left: bit W−1−d, where m + 1 = W − d
 unfoldable pub side : ℕ → ℕ → Side
 side m k = sideOf (k / 2 ^ m % 2)
@@ -25,8 +29,3 @@ isSide left left = true
 isSide left right = false
 isSide right left = false
 isSide right right = true
-
--- the bit that sends a word to a side
-abbrev pub bitOf : Side → ℕ
-bitOf left = 0
-bitOf right = 1

@@ -1,0 +1,221 @@
+-- One tree for a set. In a proper tree the keys rise; it is, row numbers apart, the PreTree of the words that it lists; and the PreTree of
+-- a set is proper and lists the set.
+use Prim.Native.Nat.{ℕ, zero, suc, _+_, _*_, _/_, _^_, _≤_, _<_}
+use mathlib.Core.Path.{_≡_, refl, sym, ap, ap₂, _∙_, subst}
+use mathlib.Core.Bool.{Bool, true, false, _&&_}
+use mathlib.Core.List.{List, [], _∷_, _++_, append-nil}
+use native.Mathlib.Omega.{arith}
+use lib.ListN.{length, length-append}
+use Rattle.ordered.specs.Such.{if_then_else_}
+use Rattle.ordered.specs.Word.{Side, left, right, bitOf, side, other, isSide}
+use Rattle.ordered.specs.Dictionary.{Above, none-above, one-above, Increasing, none-increasing, one-increasing}
+use Rattle.ordered.specs.Tree.{Tree, none, row, damaged, Entry, part, listing, size, intact, unnumbered, going, treeOf}
+use Rattle.ordered.specs.Proper.{Fitting, Proper-row, Proper}
+use Rattle.ordered.proofs.Bits.{to-part, from-part, side-of-part, left-below-right, by-sides, whole-path}
+use Rattle.ordered.proofs.Parts.{All, none-all, one-all, all-map, all-append, all-both, all-above, above-all, append-increasing}
+
+-- what fits into a part of a row fits into the row's own
+pub widened : (m path low key : ℕ) (s : Side) → low ≤ key → {x : ℕ} → Fitting m (path * 2 + bitOf s) (suc key) x → Fitting (suc m) path low x
+widened m path low key s h {x} f =
+    record { not-below = omega (arith, f .not-below); on-path = from-part m x path s (f .on-path) }
+
+pub keys-fit : (m path low : ℕ) (t : Tree) → Proper m path low t → All (Fitting m path low) (listing t)
+unfolding Proper listing
+keys-fit zero path low none h = none-all
+keys-fit zero path low (row i e l r) h = rw (h .parts left, h .parts right) (one-all (h .key-fits) none-all)
+keys-fit zero path low damaged h = absurd h
+keys-fit (suc m) path low none h = none-all
+keys-fit (suc m) path low (row i e l r) h =
+    let key : ℕ = e .key in
+    let from : low ≤ key = h .key-fits .not-below in
+    let lefts : All (Fitting m (path * 2 + bitOf left) (suc key)) (listing l) = keys-fit m (path * 2 + bitOf left) (suc key) l (h .parts left) in
+    let rights : All (Fitting m (path * 2 + bitOf right) (suc key)) (listing r) = keys-fit m (path * 2 + bitOf right) (suc key) r (h .parts right) in
+    one-all (h .key-fits) (all-append (all-map (λ x. widened m path low key left from) lefts) (all-map (λ x. widened m path low key right from) rights))
+keys-fit (suc m) path low damaged h = absurd h
+
+isSide-same : (s : Side) → isSide s s ≡ true
+isSide-same left = refl
+isSide-same right = refl
+
+isSide-other : (s : Side) → isSide s (other s) ≡ false
+isSide-other left = refl
+isSide-other right = refl
+
+-- a word goes to side s or to the other
+by-side : (P : Bool → Type 0) (s t : Side) → (t ≡ s → P true) → (t ≡ other s → P false) → P (isSide s t)
+by-side P left left here there = here refl
+by-side P left right here there = there refl
+by-side P right left here there = there refl
+by-side P right right here there = here refl
+
+-- the words that go to a side: all, none, those of two lists
+module _ (s : Side) (m : ℕ) where
+  going-all : {xs : List ℕ} → All (λ x. side m x ≡ s) xs → going s m xs ≡ xs
+  unfolding going
+  going-all none-all = refl
+  going-all (one-all h hs) = rw (h, isSide-same s, going-all hs)
+
+  going-none : {xs : List ℕ} → All (λ x. side m x ≡ other s) xs → going s m xs ≡ []
+  unfolding going
+  going-none none-all = refl
+  going-none (one-all h hs) = rw (h, isSide-other s, going-none hs)
+
+  going-append : (xs ys : List ℕ) → going s m (xs ++ ys) ≡ going s m xs ++ going s m ys
+  unfolding going
+  going-append [] ys = refl
+  going-append (x ∷ xs) ys = rw (going-append xs ys) (either (isSide s (side m x)))
+    where
+      either : (b : Bool) → (if b then x ∷ (going s m xs ++ going s m ys) else going s m xs ++ going s m ys) ≡ (if b then x ∷ going s m xs else going s m xs) ++ going s m ys
+      either true = refl
+      either false = refl
+
+  -- they have what every word of the list has, and they go to that side
+  going-has : {P : ℕ → Type 0} {xs : List ℕ} → All P xs → All (λ x. P x × (side m x ≡ s)) (going s m xs)
+  unfolding going
+  going-has none-all = none-all
+  going-has {P} (one-all {x} {xs} h hs) =
+      by-side (λ b. All (λ y. P y × (side m y ≡ s)) (if b then x ∷ going s m xs else going s m xs)) s (side m x)
+      (λ here. one-all (h, here) (going-has hs))
+      (λ there. going-has hs)
+
+  going-increasing : {xs : List ℕ} → Increasing xs → Increasing (going s m xs)
+  unfolding going
+  going-increasing none-increasing = none-increasing
+  going-increasing (one-increasing {x} {xs} a h) =
+      by-side (λ b. Increasing (if b then x ∷ going s m xs else going s m xs)) s (side m x)
+      (λ here. one-increasing (all-above (all-map (λ y g. g .0) (going-has (above-all a)))) (going-increasing h))
+      (λ there. going-increasing h)
+
+-- the two parts of a row with m + 1 bits left
+module _ (m path low : ℕ) (l r : Tree) (parts : (s : Side) → Proper m (path * 2 + bitOf s) low (part s l r)) where
+  fits : (s : Side) → All (Fitting m (path * 2 + bitOf s) low) (listing (part s l r))
+  fits s = keys-fit m (path * 2 + bitOf s) low (part s l r) (parts s)
+
+  -- the words of the left part are below those of the right part
+  pub parts-apart : All (λ x. Above x (listing r)) (listing l)
+  parts-apart = all-map (λ x f. all-above (all-map (λ y g. left-below-right m path x y (f .on-path) (g .on-path)) (fits right))) (fits left)
+
+  pub parts-above : All (λ x. low ≤ x) (listing l ++ listing r)
+  parts-above = all-append (all-map (λ x f. f .not-below) (fits left)) (all-map (λ y g. g .not-below) (fits right))
+
+  going-to : (s : Side) → All (λ x. side m x ≡ s) (listing (part s l r))
+  going-to s = all-map (λ x f. side-of-part m x path s (f .on-path)) (fits s)
+
+  -- of the words that the row lists below its key, those of a part are those that go to its side
+  going-part : (s : Side) → going s m (listing l ++ listing r) ≡ listing (part s l r)
+  going-part left = going-append left m (listing l) (listing r) ∙ ap₂ _++_ (going-all left m (going-to left)) (going-none left m (going-to right)) ∙ append-nil (listing l)
+  going-part right = going-append right m (listing l) (listing r) ∙ ap₂ _++_ (going-none right m (going-to left)) (going-all right m (going-to right))
+
+pub keys-rise : (m path low : ℕ) (t : Tree) → Proper m path low t → Increasing (listing t)
+unfolding Proper listing
+keys-rise zero path low none h = none-increasing
+keys-rise zero path low (row i e l r) h = rw (h .parts left, h .parts right) (one-increasing none-above none-increasing)
+keys-rise zero path low damaged h = absurd h
+keys-rise (suc m) path low none h = none-increasing
+keys-rise (suc m) path low (row i e l r) h =
+    let next : ℕ = suc (e .key) in
+    one-increasing
+    (all-above (parts-above m path next l r (h .parts)))
+    (append-increasing (keys-rise m (path * 2 + bitOf left) next l (h .parts left)) (keys-rise m (path * 2 + bitOf right) next r (h .parts right)) (parts-apart m path next l r (h .parts)))
+keys-rise (suc m) path low damaged h = absurd h
+
+-- "One tree": a proper tree is, row numbers apart, the PreTree of what it lists
+pub one-tree : (m path low : ℕ) (t : Tree) → Proper m path low t → unnumbered t ≡ treeOf m (listing t)
+unfolding Proper listing unnumbered treeOf
+one-tree zero path low none h = refl
+one-tree zero path low (row i e l r) h = rw (h .parts left, h .parts right)
+one-tree zero path low damaged h = absurd h
+one-tree (suc m) path low none h = refl
+one-tree (suc m) path low (row i e l r) h =
+    let next : ℕ = suc (e .key) in
+    rw (going-part m path next l r (h .parts) left, going-part m path next l r (h .parts) right)
+    (ap₂ (row 0 e) (one-tree m (path * 2 + bitOf left) next l (h .parts left)) (one-tree m (path * 2 + bitOf right) next r (h .parts right)))
+one-tree (suc m) path low damaged h = absurd h
+
+part-of : (f : Side → Tree) (s : Side) → part s (f left) (f right) ≡ f s
+part-of f left = refl
+part-of f right = refl
+
+-- what goes to a side fits into the part there
+going-fits : (m path low : ℕ) (s : Side) {x : ℕ} {xs : List ℕ} → Above x xs → All (Fitting (suc m) path low) xs → All (Fitting m (path * 2 + bitOf s) (suc x)) (going s m xs)
+going-fits m path low s a fs =
+    all-map (λ y g. record { not-below = g .0 .0; on-path = to-part m y path s (g .0 .1 .on-path) (g .1) }) (going-has s m (all-both (above-all a) fs))
+
+-- the PreTree of a set is proper
+pub set-proper : (m path low : ℕ) (S : List ℕ) → Increasing S → All (Fitting m path low) S → Proper m path low (treeOf m S)
+unfolding Proper treeOf
+set-proper zero path low [] rising fits = tt
+set-proper zero path low (x ∷ xs) rising (one-all f fs) = record { key-fits = f; parts = λ s. part-of (λ s. none) s }
+set-proper (suc m) path low [] rising fits = tt
+set-proper (suc m) path low (x ∷ xs) (one-increasing a rising) (one-all f fs) =
+    record {
+      key-fits = f;
+      parts =
+          λ s.
+          subst (Proper m (path * 2 + bitOf s) (suc x)) (sym (part-of (λ s. treeOf m (going s m xs)) s))
+          (set-proper m (path * 2 + bitOf s) (suc x) (going s m xs) (going-increasing s m rising) (going-fits m path low s a fs));
+    }
+
+-- a greater word on the path of a row does not go further left
+right-stays : (m x y : ℕ) → x / 2 ^ suc m ≡ y / 2 ^ suc m → x < y → side m x ≡ right → side m y ≡ right
+right-stays m x y same less goes-right = by-cases (side m y) refl
+  where
+    by-cases : (s : Side) → side m y ≡ s → s ≡ right
+    by-cases left goes-left = absurd (let back : y < x = by-sides m y x (sym same) goes-left goes-right in omega arith)
+    by-cases right also = refl
+
+-- so the words of a row are those that go left and then those that go right
+going-both : (m path low : ℕ) {xs : List ℕ} → Increasing xs → All (Fitting (suc m) path low) xs → going left m xs ++ going right m xs ≡ xs
+unfolding going
+going-both m path low none-increasing fits = refl
+going-both m path low (one-increasing {x} {xs} a rising) (one-all f fs) = by-cases (side m x) refl (going-both m path low rising fs)
+  where
+    all-right : side m x ≡ right → All (λ y. side m y ≡ right) xs
+    all-right goes-right = all-map (λ y g. right-stays m x y (f .on-path ∙ sym (g .1 .on-path)) (g .0) goes-right) (all-both (above-all a) fs)
+
+    by-cases : (s : Side) → side m x ≡ s → going left m xs ++ going right m xs ≡ xs → (if isSide left s then x ∷ going left m xs else going left m xs) ++ (if isSide right s then x ∷ going right m xs else going right m xs) ≡ x ∷ xs
+    by-cases left goes-left rest = ap (λ ys. x ∷ ys) rest
+    by-cases right goes-right rest = rw (going-none left m (all-right goes-right), going-all right m (all-right goes-right))
+
+-- and it lists the set
+pub set-listing : (m path low : ℕ) (S : List ℕ) → Increasing S → All (Fitting m path low) S → listing (treeOf m S) ≡ S
+unfolding treeOf listing
+set-listing zero path low [] rising fits = refl
+set-listing zero path low (x ∷ []) rising fits = refl
+set-listing zero path low (x ∷ (y ∷ ys)) (one-increasing (one-above less a) rising) (one-all f (one-all g fs)) =
+    absurd (omega (arith, f .on-path, g .on-path, whole-path x, whole-path y))
+set-listing (suc m) path low [] rising fits = refl
+set-listing (suc m) path low (x ∷ xs) (one-increasing a rising) (one-all f fs) =
+    rw (
+      set-listing m (path * 2 + bitOf left) (suc x) (going left m xs) (going-increasing left m rising) (going-fits m path low left a fs),
+      set-listing m (path * 2 + bitOf right) (suc x) (going right m xs) (going-increasing right m rising) (going-fits m path low right a fs),
+      going-both m path low rising fs,
+    )
+
+pub set-unnumbered : (m : ℕ) (S : List ℕ) → unnumbered (treeOf m S) ≡ treeOf m S
+unfolding treeOf unnumbered
+set-unnumbered zero [] = refl
+set-unnumbered zero (x ∷ xs) = refl
+set-unnumbered (suc m) [] = refl
+set-unnumbered (suc m) (x ∷ xs) = ap₂ (row 0 (record { key = x })) (set-unnumbered m (going left m xs)) (set-unnumbered m (going right m xs))
+
+-- so two proper trees with the same bits left that list the same words are equal, row numbers apart
+pub same-tree : (m path low path′ low′ : ℕ) (t u : Tree) → Proper m path low t → Proper m path′ low′ u → listing t ≡ listing u → unnumbered t ≡ unnumbered u
+same-tree m path low path′ low′ t u h k same = one-tree m path low t h ∙ ap (treeOf m) same ∙ sym (one-tree m path′ low′ u k)
+
+pub proper-intact : (m path low : ℕ) (t : Tree) → Proper m path low t → intact t ≡ true
+unfolding Proper intact
+proper-intact zero path low none h = refl
+proper-intact zero path low (row i e l r) h = rw (h .parts left, h .parts right)
+proper-intact zero path low damaged h = absurd h
+proper-intact (suc m) path low none h = refl
+proper-intact (suc m) path low (row i e l r) h =
+    rw (proper-intact m (path * 2 + bitOf left) (suc (e .key)) l (h .parts left), proper-intact m (path * 2 + bitOf right) (suc (e .key)) r (h .parts right))
+proper-intact (suc m) path low damaged h = absurd h
+
+-- every tree lists as many words as it has rows
+pub listing-length : (t : Tree) → length (listing t) ≡ size t
+unfolding listing size
+listing-length none = refl
+listing-length (row i e l r) = ap suc (length-append (listing l) (listing r) ∙ ap₂ _+_ (listing-length l) (listing-length r))
+listing-length damaged = refl

@@ -1,0 +1,136 @@
+-- Laws of lists: what holds of every element, what is sought in a list, and both where the list is joined from parts.
+use Prim.Native.Nat.{ℕ, suc, _+_, _<_}
+use mathlib.Core.Path.{_≡_, refl, sym, ap, ap₂, _∙_}
+use mathlib.Core.Bool.{Bool, true, false, _||_, or-assoc, or-false}
+use mathlib.Core.List.{List, [], _∷_, _++_, List·Memᴰ, List·Memᴰ·head, List·Memᴰ·tail}
+use lib.Dec.{eqb}
+use Rattle.ordered.specs.Such.{if_then_else_, Perhaps, no-such, such, first-of, only-if, first-such, last-such, anything}
+use Rattle.ordered.specs.Dictionary.{Above, none-above, one-above, Increasing, none-increasing, one-increasing, lookup}
+
+-- P holds of every element
+pub data All {A : Type 0} (P : A → Type 0) : List A → Type 0 where
+  none-all : All P []
+  one-all : {x : A} {xs : List A} → P x → All P xs → All P (x ∷ xs)
+
+module _ {A : Type 0} where
+  pub all-map : {P Q : A → Type 0} {xs : List A} → ((x : A) → P x → Q x) → All P xs → All Q xs
+  all-map f none-all = none-all
+  all-map f (one-all {x} h hs) = one-all (f x h) (all-map f hs)
+
+  pub all-append : {P : A → Type 0} {xs ys : List A} → All P xs → All P ys → All P (xs ++ ys)
+  all-append none-all k = k
+  all-append (one-all h hs) k = one-all h (all-append hs k)
+
+  pub all-both : {P Q : A → Type 0} {xs : List A} → All P xs → All Q xs → All (λ x. P x × Q x) xs
+  all-both none-all none-all = none-all
+  all-both (one-all h hs) (one-all k ks) = one-all (h, k) (all-both hs ks)
+
+  -- said of the elements one by one, and the other way round
+  pub each-of-all : {P : A → Type 0} {xs : List A} {x : A} → All P xs → List·Memᴰ x xs → P x
+  each-of-all {P} (one-all h hs) (List·Memᴰ·head e) = rw e h
+  each-of-all (one-all h hs) (List·Memᴰ·tail i) = each-of-all hs i
+
+  pub all-of-each : {P : A → Type 0} (xs : List A) → ((x : A) → List·Memᴰ x xs → P x) → All P xs
+  all-of-each [] f = none-all
+  all-of-each (x ∷ xs) f = one-all (f x (List·Memᴰ·head refl)) (all-of-each xs (λ y i. f y (List·Memᴰ·tail i)))
+
+pub all-above : {x : ℕ} {ys : List ℕ} → All (λ y. x < y) ys → Above x ys
+all-above none-all = none-above
+all-above (one-all h hs) = one-above h (all-above hs)
+
+pub above-all : {x : ℕ} {ys : List ℕ} → Above x ys → All (λ y. x < y) ys
+above-all none-above = none-all
+above-all (one-above h hs) = one-all h (above-all hs)
+
+-- two increasing lists, one wholly below the other
+pub append-increasing : {xs ys : List ℕ} → Increasing xs → Increasing ys → All (λ x. Above x ys) xs → Increasing (xs ++ ys)
+append-increasing none-increasing k apart = k
+append-increasing (one-increasing a h) k (one-all b apart) = one-increasing (all-above (all-append (above-all a) (above-all b))) (append-increasing h k apart)
+
+module _ {A : Type 0} where
+  pub first-of-assoc : (p q r : Perhaps A) → first-of (first-of p q) r ≡ first-of p (first-of q r)
+  first-of-assoc no-such q r = refl
+  first-of-assoc (such x) q r = refl
+
+  pub first-of-no-such : (p : Perhaps A) → first-of p no-such ≡ p
+  first-of-no-such no-such = refl
+  first-of-no-such (such x) = refl
+
+  module _ (p : A → Bool) where
+    pub first-such-append : (xs ys : List A) → first-such p (xs ++ ys) ≡ first-of (first-such p xs) (first-such p ys)
+    unfolding first-such
+    first-such-append [] ys = refl
+    first-such-append (x ∷ xs) ys = rw (first-such-append xs ys) (sym (first-of-assoc (only-if p (such x)) (first-such p xs) (first-such p ys)))
+
+    pub last-such-append : (xs ys : List A) → last-such p (xs ++ ys) ≡ first-of (last-such p ys) (last-such p xs)
+    unfolding last-such
+    last-such-append [] ys = sym (first-of-no-such (last-such p ys))
+    last-such-append (x ∷ xs) ys = rw (last-such-append xs ys) (first-of-assoc (last-such p ys) (last-such p xs) (only-if p (such x)))
+
+  -- two tests that agree on a list find the same in it
+  pub same-first : {p q : A → Bool} (xs : List A) → All (λ x. p x ≡ q x) xs → first-such p xs ≡ first-such q xs
+  unfolding first-such
+  same-first [] none-all = refl
+  same-first (x ∷ xs) (one-all h hs) = rw (h, same-first xs hs)
+
+  pub same-last : {p q : A → Bool} (xs : List A) → All (λ x. p x ≡ q x) xs → last-such p xs ≡ last-such q xs
+  unfolding last-such
+  same-last [] none-all = refl
+  same-last (x ∷ xs) (one-all h hs) = rw (h, same-last xs hs)
+
+  pub no-first : {p : A → Bool} (xs : List A) → All (λ x. p x ≡ false) xs → first-such p xs ≡ no-such
+  unfolding first-such
+  no-first [] none-all = refl
+  no-first (x ∷ xs) (one-all h hs) = rw (h, no-first xs hs)
+
+  pub no-last : {p : A → Bool} (xs : List A) → All (λ x. p x ≡ false) xs → last-such p xs ≡ no-such
+  unfolding last-such
+  no-last [] none-all = refl
+  no-last (x ∷ xs) (one-all h hs) = rw (h, no-last xs hs)
+
+  -- what is sought among three parts, of which the outer ones wholly pass or fail the test
+  module _ (p : A → Bool) (xs ys zs : List A) where
+    pub first-between : All (λ x. p x ≡ false) xs → All (λ z. p z ≡ true) zs → first-such p (xs ++ (ys ++ zs)) ≡ first-of (first-such p ys) (first-such anything zs)
+    first-between fail pass = rw (first-such-append p xs (ys ++ zs), no-first xs fail, first-such-append p ys zs, same-first zs pass)
+
+    pub last-between : All (λ x. p x ≡ true) xs → All (λ z. p z ≡ false) zs → last-such p (xs ++ (ys ++ zs)) ≡ first-of (last-such p ys) (last-such anything xs)
+    last-between pass fail = rw (last-such-append p xs (ys ++ zs), last-such-append p ys zs, no-last zs fail, same-last xs pass)
+
+  abbrev pub If-such : (A → Type 0) → Perhaps A → Type 0
+  If-such P no-such = Unit {0}
+  If-such P (such x) = P x
+
+  -- what is found, if there is such a thing, is one of the list and passes the test
+  pub last-such-all : {P : A → Type 0} (p : A → Bool) {xs : List A} → All P xs → If-such (λ x. P x × (p x ≡ true)) (last-such p xs)
+  unfolding last-such
+  last-such-all p none-all = tt
+  last-such-all {P} p (one-all {x} {xs} h hs) = later (last-such p xs) (last-such-all p hs)
+    where
+      here : (b : Bool) → p x ≡ b → If-such (λ y. P y × (p y ≡ true)) (if b then such x else no-such)
+      here true passes = (h, passes)
+      here false fails = tt
+
+      later : (q : Perhaps A) → If-such (λ y. P y × (p y ≡ true)) q → If-such (λ y. P y × (p y ≡ true)) (first-of q (only-if p (such x)))
+      later no-such found = here (p x) refl
+      later (such y) found = found
+
+  pub last-such-one : {P : A → Type 0} (p : A → Bool) {xs : List A} → All P xs → If-such P (last-such p xs)
+  last-such-one {P} p {xs} hs = only (last-such p xs) (last-such-all p hs)
+    where
+      only : (q : Perhaps A) → If-such (λ y. P y × (p y ≡ true)) q → If-such P q
+      only no-such found = tt
+      only (such y) found = found .0
+
+pub lookup-append : (x : ℕ) (xs ys : List ℕ) → lookup x (xs ++ ys) ≡ (lookup x xs || lookup x ys)
+unfolding lookup
+lookup-append x [] ys = refl
+lookup-append x (y ∷ xs) ys = rw (lookup-append x xs ys) (sym (or-assoc (eqb x y) (lookup x xs) (lookup x ys)))
+
+pub no-lookup : (x : ℕ) (xs : List ℕ) → All (λ y. eqb x y ≡ false) xs → lookup x xs ≡ false
+unfolding lookup
+no-lookup x [] none-all = refl
+no-lookup x (y ∷ ys) (one-all h hs) = rw (h, no-lookup x ys hs)
+
+pub lookup-between : (x : ℕ) (xs ys zs : List ℕ) → All (λ y. eqb x y ≡ false) xs → All (λ y. eqb x y ≡ false) zs → lookup x (xs ++ (ys ++ zs)) ≡ lookup x ys
+lookup-between x xs ys zs fail fail′ =
+    rw (lookup-append x xs (ys ++ zs), no-lookup x xs fail, lookup-append x ys zs, no-lookup x zs fail′) (or-false (lookup x ys))

@@ -1,0 +1,147 @@
+-- Laws of every way, whatever its rule: how to prove one, how a way parts the listing of its tree, and what it passes in a proper tree.
+use Prim.Native.Nat.{ℕ, zero, suc, _+_, _*_, _/_, _^_, _≤_, _<_}
+use mathlib.Core.Path.{_≡_, refl, sym, ap, ap₂, _∙_}
+use mathlib.Core.Bool.{Bool, true, false, _&&_}
+use mathlib.Core.List.{List, [], _∷_, _++_, append-nil, append-assoc}
+use native.Mathlib.Nat.{zero-add}
+use native.Mathlib.Omega.{arith}
+use lib.Dec.{ltb, leb}
+use Rattle.ordered.specs.Such.{if_then_else_}
+use Rattle.ordered.specs.Word.{Side, left, right, bitOf, side}
+use Rattle.ordered.specs.Tree.{Tree, none, row, damaged, Entry, part, listing, intact}
+use Rattle.ordered.specs.Proper.{Fitting, Proper-row, Proper}
+use Rattle.ordered.specs.Way.{Step, Way, Rule, Turn, stop, to, way, ending, passing, turning, broken, isDamaged, following, passing-equal}
+use Rattle.ordered.proofs.Parts.{All, none-all, one-all}
+
+-- where a way by the rule f ends: with no bit left, at an empty link, at damage, or at a row where the rule stops
+pub data Stops (f : Rule) : ℕ → Tree → Type 0 where
+  at-bottom : {t : Tree} → Stops f zero t
+  at-none : {m : ℕ} → Stops f (suc m) none
+  at-damage : {m : ℕ} → Stops f (suc m) damaged
+  at-stop : {m i : ℕ} {e : Entry} {l r : Tree} → f m e l r ≡ stop → Stops f (suc m) (row i e l r)
+
+abbrev pub step : ℕ → ℕ → Entry → Tree → Tree → Side → Step
+step m i e l r s = record { at = i; entry = e; turn = s; left-part = l; right-part = r; below = m }
+
+-- induction along a way: what holds where it ends, and holds from a row on if it holds from the part on to which the rule turns there, holds
+-- of the whole way
+pub along : (f : Rule) (P : ℕ → Tree → Way → Type 0)
+    → ((m : ℕ) (t : Tree) → Stops f m t → P m t (ending m t))
+    → ((m i : ℕ) (e : Entry) (l r : Tree) (s : Side) → f m e l r ≡ to s → P m (part s l r) (way f m (part s l r)) → P (suc m) (row i e l r) (passing (step m i e l r s) (way f m (part s l r))))
+    → (m : ℕ) (t : Tree) → P m t (way f m t)
+unfolding way
+along f P ends goes zero t = ends zero t at-bottom
+along f P ends goes (suc m) none = ends (suc m) none at-none
+along f P ends goes (suc m) damaged = ends (suc m) damaged at-damage
+along f P ends goes (suc m) (row i e l r) = turned (f m e l r) refl (λ s. along f P ends goes m (part s l r))
+  where
+    turned : (c : Turn) → f m e l r ≡ c → ((s : Side) → P m (part s l r) (way f m (part s l r))) → P (suc m) (row i e l r) (turning (way f m) m i e l r c)
+    turned stop says rest = ends (suc m) (row i e l r) (at-stop says)
+    turned (to s) says rest = goes m i e l r s says (rest s)
+
+-- the part that lies left of a way at a row where it turns to a side, and the part that lies right of it
+abbrev pub left-aside : Side → Tree → List ℕ
+left-aside left l = []
+left-aside right l = listing l
+
+abbrev pub right-aside : Side → Tree → List ℕ
+right-aside left r = listing r
+right-aside right r = []
+
+-- the words that lie left of a way, and those that lie right of it
+unfoldable pub lower : List Step → List ℕ
+lower [] = []
+lower (s ∷ ss) = s .entry .key ∷ (left-aside (s .turn) (s .left-part) ++ lower ss)
+
+unfoldable pub upper : List Step → List ℕ
+upper [] = []
+upper (s ∷ ss) = upper ss ++ right-aside (s .turn) (s .right-part)
+
+-- what is put around the parts of a listing where a way turns
+module _ (key : ℕ) (aside : List ℕ) {xs : List ℕ} (a b c : List ℕ) (rest : xs ≡ a ++ (b ++ c)) where
+  around-left : key ∷ (xs ++ aside) ≡ (key ∷ a) ++ (b ++ (c ++ aside))
+  around-left = rw rest (simp append-assoc)
+
+  around-right : key ∷ (aside ++ xs) ≡ (key ∷ (aside ++ a)) ++ (b ++ (c ++ []))
+  around-right = rw rest (simp (append-assoc, append-nil))
+
+-- the listing is what lies left, what the way's end lists, what lies right
+pub parted : (f : Rule) (m : ℕ) (t : Tree) → let w : Way = way f m t in listing t ≡ lower (w .passed) ++ (listing (w .end) ++ upper (w .passed))
+unfolding listing lower upper
+parted f = along f (λ m t w. listing t ≡ lower (w .passed) ++ (listing (w .end) ++ upper (w .passed))) (λ m t ends. sym (append-nil (listing t))) goes
+  where
+    goes : (m i : ℕ) (e : Entry) (l r : Tree) (s : Side) → f m e l r ≡ to s
+        → (let w : Way = way f m (part s l r) in listing (part s l r) ≡ lower (w .passed) ++ (listing (w .end) ++ upper (w .passed)))
+        → (let w : Way = passing (step m i e l r s) (way f m (part s l r)) in listing (row i e l r) ≡ lower (w .passed) ++ (listing (w .end) ++ upper (w .passed)))
+    goes m i e l r left says rest =
+        let w : Way = way f m l in
+        around-left (e .key) (listing r) (lower (w .passed)) (listing (w .end)) (upper (w .passed)) rest
+    goes m i e l r right says rest =
+        let w : Way = way f m r in
+        around-right (e .key) (listing l) (lower (w .passed)) (listing (w .end)) (upper (w .passed)) rest
+
+-- the parts on both sides of a row that is passed are proper
+abbrev pub Proper-step : Step → Type 0
+Proper-step s = (σ : Side) → Proper (s .below) (s .entry .key / 2 ^ suc (s .below) * 2 + bitOf σ) (suc (s .entry .key)) (part σ (s .left-part) (s .right-part))
+
+pub passed-proper : (f : Rule) (m : ℕ) (t : Tree) (path low : ℕ) → Proper m path low t → All Proper-step (way f m t .passed)
+unfolding Proper
+passed-proper f = along f (λ m t w. (path low : ℕ) → Proper m path low t → All Proper-step (w .passed)) (λ m t ends path low h. none-all) goes
+  where
+    goes : (m i : ℕ) (e : Entry) (l r : Tree) (s : Side) → f m e l r ≡ to s
+        → ((path low : ℕ) → Proper m path low (part s l r) → All Proper-step (way f m (part s l r) .passed))
+        → (path low : ℕ) → Proper (suc m) path low (row i e l r) → All Proper-step (step m i e l r s ∷ way f m (part s l r) .passed)
+    goes m i e l r s says rest path low h = one-all {x = step m i e l r s} (rw (h .key-fits .on-path) (h .parts)) (rest (path * 2 + bitOf s) (suc (e .key)) (h .parts s))
+
+pub and-true : (a b : Bool) → (a && b) ≡ true → (a ≡ true) × (b ≡ true)
+and-true true b h = (refl, h)
+and-true false b h = (h, cc)
+
+-- a tree without damage breaks no way
+intact-part : (s : Side) (l r : Tree) → (intact l && intact r) ≡ true → intact (part s l r) ≡ true
+intact-part left l r h = and-true (intact l) (intact r) h .0
+intact-part right l r h = and-true (intact l) (intact r) h .1
+
+pub intact-here : (t : Tree) → intact t ≡ true → isDamaged t ≡ false
+unfolding intact
+intact-here none h = refl
+intact-here (row i e l r) h = refl
+intact-here damaged h = sym h
+
+pub unbroken : (f : Rule) (m : ℕ) (t : Tree) → intact t ≡ true → broken (way f m t) ≡ false
+unfolding intact broken
+unbroken f =
+    along f (λ m t w. intact t ≡ true → broken w ≡ false) (λ m t ends h. intact-here t h)
+    (λ m i e l r s says rest h. rest (intact-part s l r h))
+
+-- a rule that follows the bits of k at the rows whose key passes a test, and stops at the others
+abbrev pub Seeks : Rule → (ℕ → Bool) → ℕ → Type 0
+Seeks f test k = (m : ℕ) (e : Entry) (l r : Tree) → f m e l r ≡ (if test (e .key) then to (side m k) else stop)
+
+module _ (f : Rule) (test : ℕ → Bool) (k : ℕ) (seeks : Seeks f test k) where
+  pub turns-so : (m : ℕ) (e : Entry) (l r : Tree) (s : Side) → f m e l r ≡ to s → (test (e .key) ≡ true) × (side m k ≡ s)
+  turns-so m e l r s says = turned (test (e .key)) (sym (seeks m e l r) ∙ says)
+    where
+      turned : (b : Bool) → (if b then to (side m k) else stop) ≡ to s → (b ≡ true) × (side m k ≡ s)
+      turned true says = (refl, cc)
+      turned false says = (cc, cc)
+
+  pub stops-so : (m : ℕ) (e : Entry) (l r : Tree) → f m e l r ≡ stop → test (e .key) ≡ false
+  stops-so m e l r says = stopped (test (e .key)) (sym (seeks m e l r) ∙ says)
+    where
+      stopped : (b : Bool) → (if b then to (side m k) else stop) ≡ stop → b ≡ false
+      stopped true says = cc
+      stopped false says = refl
+
+  pub passed-pass : (m : ℕ) (t : Tree) → All (λ s. test (s .entry .key) ≡ true) (way f m t .passed)
+  passed-pass =
+      along f (λ m t w. All (λ s. test (s .entry .key) ≡ true) (w .passed)) (λ m t ends. none-all)
+      (λ m i e l r s says rest. one-all (turns-so m e l r s says .0) rest)
+
+pub following-seeks : (k : ℕ) → Seeks (following k) (λ x. ltb x k) k
+unfolding following
+following-seeks k m e l r = refl
+
+pub passing-equal-seeks : (k : ℕ) → Seeks (passing-equal k) (λ x. leb x k) k
+unfolding passing-equal
+passing-equal-seeks k m e l r = refl
