@@ -16,8 +16,8 @@ use Rattle.pretree.specs.declared.Row.{Row}
 use Rattle.pretree.specs.declared.walk.Stage.{Stage}
 use Rattle.pretree.specs.declared.walk.Stage.the-variants.{On, AtNone, AtRow, AtDamage}
 use Rattle.pretree.specs.declared.walk.Walk.{Walk}
-use Rattle.pretree.specs.Table.{link}
-use Rattle.pretree.specs.Unfold.{ends-there, linked, unfolded}
+use Rattle.pretree.specs.Table.{rowAt, link}
+use Rattle.pretree.specs.Unfold.{ends-there, linked, unfolded, shown}
 
 abbrev pub started : Header → ℕ → ℕ → Walk
 started h word limit =
@@ -149,16 +149,38 @@ stepAt rows n k m i =
       below = m;
     }
 
-abbrev pub remembered : (ℕ → Row) → Walk → Bool → ℕ → ℕ → Perhaps Step
-remembered rows w true m i = such (stepAt rows (w .count) (w .word) m i)
-remembered rows w false m i = no-such
+-- that step, if there is one to remember
+abbrev pub remembered : (ℕ → Row) → ℕ → ℕ → Bool → ℕ → ℕ → Perhaps Step
+remembered rows n k true m i = such (stepAt rows n k m i)
+remembered rows n k false m i = no-such
 
--- the walk w goes the whole way, from a root with so many bits left
-pub record Goes (rows : ℕ → Row) (width : ℕ) (whole : Way) (w : Walk) : Type 0 where
-  pub end : toCome rows w .end ≡ whole .end
-  pub bits : toCome rows w .bits ≡ whole .bits
-  pub number : length (toCome rows w .passed) + (width - w .bits) ≡ length (whole .passed)
-  pub above : first-of (last-such anything (toCome rows w .passed)) (remembered rows w (ltb (w .bits) width) (w .bits) (w .above))
+-- the walk w goes the whole way, from a root with so many bits left, if this is still to come
+pub record Goes (rows : ℕ → Row) (width : ℕ) (whole : Way) (w : Walk) (coming : Way) : Type 0 where
+  pub end : coming .end ≡ whole .end
+  pub bits : coming .bits ≡ whole .bits
+  pub number : length (coming .passed) + (width - w .bits) ≡ length (whole .passed)
+  pub above : first-of (last-such anything (coming .passed)) (remembered rows (w .count) (w .word) (ltb (w .bits) width) (w .bits) (w .above))
       ≡ last-such anything (whole .passed)
-  pub aside : first-of (last-such right-left-aside (toCome rows w .passed)) (remembered rows w (w .any) (w .beneath) (w .aside))
+  pub aside : first-of (last-such right-left-aside (coming .passed)) (remembered rows (w .count) (w .word) (w .any) (w .beneath) (w .aside))
       ≡ last-such right-left-aside (whole .passed)
+
+-- what is known of the row at which the walk is: one that it wants is in use; one at which it ended was read, and is no damage
+abbrev pub Placed : (ℕ → Row) → Walk → Stage → Type 0
+Placed rows w On = w .row < w .count
+Placed rows w AtNone = Unit {0}
+Placed rows w AtRow = (w .row < w .count) × (holds w (rows (w .row)) ≡ true) × (w .key ≡ rows (w .row) .entry .key)
+Placed rows w AtDamage = Unit {0}
+
+-- the walk w is on the way of the word, up to the limit, over what the table shows
+pub record Walking (h : Header) (table : List ℕ) (word limit : ℕ) (w : Walk) : Type 0 where
+  pub goes : Goes (rowAt table) (h .width) (way (seeking limit word) (h .width) (shown h table)) w (toCome (rowAt table) w)
+  pub placed : Placed (rowAt table) w (w .stage)
+  pub fits : w .bits ≤ h .width
+  pub same-word : w .word ≡ word
+  pub same-limit : w .limit ≡ limit
+  pub same-count : w .count ≡ h .count
+
+-- the walk that has gone it
+pub record Walked (h : Header) (table : List ℕ) (word limit : ℕ) (w : Walk) : Type 0 where
+  pub walking : Walking h table word limit w
+  pub ended : isOn (w .stage) ≡ false

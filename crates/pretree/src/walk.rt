@@ -3,11 +3,13 @@
 
 use crate::Header;
 use crate::Row;
+use crate::table::row_at;
 ghost use mathlib.Core.Path.{_≡_};
-ghost use mathlib.Core.Bool.{true};
+ghost use mathlib.Core.Bool.{false};
 ghost use Prim.Native.Nat.{_≤_, _<_};
 ghost use Rattle.ordered.specs.Word.{sideOf};
-ghost use Rattle.pretree.specs.Walk.{started, isOn, holds, ended, remembering, passed, turned, stageAt, met};
+ghost use Rattle.pretree.specs.Walk.{started, isOn, holds, ended, remembering, passed, turned, stageAt, met, Walked};
+ghost use Rattle.pretree.specs.Reply.{wrong-header, too-wide};
 
 // Where a walk is: at a row that it wants to read, or at its end, which is an empty link, a row or damage.
 pub enum Stage {
@@ -193,4 +195,18 @@ fn stage_at(count: u32, link: u32) -> Stage
     } else {
         Stage::AtDamage
     }
+}
+
+// The way of a word from the root, up to the limit: the only loop over the table that this walk has.
+pub fn way_of(table: &[u32], h: Header, word: u32, limit: u64) -> Walk
+    requires header { ⌜ wrong-header h (now table) ≡ false ⌝ }
+    requires width { ⌜ too-wide h word ≡ false ⌝ }
+    ensures { λ r. ⌜ Walked h (now (table .entry)) word limit r ⌝ }
+{
+    let mut w = Walk::start(h, word, limit);
+    while w.is_on() {
+        let at = w.row;
+        w = w.met(row_at(table, at));
+    }
+    w
 }
