@@ -42,6 +42,16 @@ isOn AtNone = false
 isOn AtRow = false
 isOn AtDamage = false
 
+abbrev pub endRead : Stage → ℕ
+endRead On = 0
+endRead AtNone = 0
+endRead AtRow = 1
+endRead AtDamage = 0
+
+-- the rows that a walk from a root with so many bits left has read
+abbrev pub rowsRead : Walk → ℕ → ℕ
+rowsRead w width = width - w .bits + endRead (w .stage)
+
 -- the row that the walk wants is no damage, but for its number
 abbrev pub holds : Walk → Row → Bool
 holds w r =

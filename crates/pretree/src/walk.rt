@@ -8,7 +8,7 @@ ghost use mathlib.Core.Path.{_≡_};
 ghost use mathlib.Core.Bool.{false};
 ghost use Prim.Native.Nat.{_≤_, _<_};
 ghost use Rattle.ordered.specs.Word.{sideOf};
-ghost use Rattle.pretree.specs.Walk.{started, isOn, holds, ended, remembering, passed, turned, stageAt, met, Walked};
+ghost use Rattle.pretree.specs.Walk.{started, isOn, holds, ended, remembering, passed, turned, stageAt, met, rowsRead, Walked};
 ghost use Rattle.pretree.specs.Reply.{wrong-header, too-wide};
 
 // Where a walk is: at a row that it wants to read, or at its end, which is an empty link, a row or damage.
@@ -61,6 +61,21 @@ impl Walk {
             beneath: 0,
             any: false,
             stage,
+        }
+    }
+
+    // The rows that it has read.
+    pub fn rows(self, width: u32) -> u32
+        requires { ⌜ (self .bits ≤ width) × (width ≤ 32) ⌝ }
+        ensures { λ r. ⌜ r ≡ rowsRead self width ⌝ }
+    {
+        let passed = width - self.bits;
+        let stage = self.stage;
+        match stage {
+            Stage::AtRow => passed + 1,
+            Stage::On => passed,
+            Stage::AtNone => passed,
+            Stage::AtDamage => passed,
         }
     }
 
