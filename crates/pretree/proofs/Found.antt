@@ -17,15 +17,8 @@ use Rattle.pretree.specs.declared.walk.Walk.{Walk}
 use Rattle.pretree.specs.Unfold.{shown}
 use Rattle.pretree.specs.Reply.{wrong-header, too-wide, refused, answered}
 use Rattle.pretree.specs.Find.{hasReply, saying, done}
-use Rattle.pretree.specs.Walk.{rowsRead, seeking, Walked}
+use Rattle.pretree.specs.Walk.{found-by, rowsRead, seeking, Walked}
 use Rattle.pretree.proofs.Ended.{following-is, endPart, Gone, all-gone, rows-gone}
-
--- what is answered where the walk ended, at a row with that key, after so many rows
-abbrev pub found-by : Header → ℕ → ℕ → ℕ → Stage → Reply
-found-by h k key n On = answered h NoSuchWord n
-found-by h k key n AtNone = answered h NoSuchWord n
-found-by h k key n AtRow = if eqb k key then answered h Done n else answered h NoSuchWord n
-found-by h k key n AtDamage = refused h Damage
 
 module _ (h : Header) (table : List ℕ) (k : ℕ) (w : Walk) (fine : wrong-header h table ≡ false) (small : too-wide h k ≡ false)
     (gone : Walked h table k k w) where

@@ -13,9 +13,12 @@ use Rattle.ordered.specs.Way.{Way, Step, Rule, Turn, stop, to, way, ending}
 use Rattle.ordered.specs.Reading.{right-left-aside}
 use Rattle.pretree.specs.declared.Header.{Header}
 use Rattle.pretree.specs.declared.Row.{Row}
+use Rattle.pretree.specs.declared.Answer.the-variants.{Done, Damage, NoSuchWord}
+use Rattle.pretree.specs.declared.Reply.{Reply}
 use Rattle.pretree.specs.declared.walk.Stage.{Stage}
 use Rattle.pretree.specs.declared.walk.Stage.the-variants.{On, AtNone, AtRow, AtDamage}
 use Rattle.pretree.specs.declared.walk.Walk.{Walk}
+use Rattle.pretree.specs.Reply.{refused, answered}
 use Rattle.pretree.specs.Table.{rowAt, link}
 use Rattle.pretree.specs.Unfold.{ends-there, linked, unfolded, shown}
 
@@ -194,3 +197,10 @@ pub record Walking (h : Header) (table : List ℕ) (word limit : ℕ) (w : Walk)
 pub record Walked (h : Header) (table : List ℕ) (word limit : ℕ) (w : Walk) : Type 0 where
   pub walking : Walking h table word limit w
   pub ended : isOn (w .stage) ≡ false
+
+-- what is answered where the walk ended, at a row with that key, after so many rows
+abbrev pub found-by : Header → ℕ → ℕ → ℕ → Stage → Reply
+found-by h k key n On = answered h NoSuchWord n
+found-by h k key n AtNone = answered h NoSuchWord n
+found-by h k key n AtRow = if eqb k key then answered h Done n else answered h NoSuchWord n
+found-by h k key n AtDamage = refused h Damage

@@ -9,6 +9,7 @@ ghost use mathlib.Core.Path.{_≡_};
 ghost use mathlib.Core.Bool.{false};
 ghost use Rattle.pretree.specs.Reply.{wrong-header, too-wide, refused, answered};
 ghost use Rattle.pretree.specs.Find.{hasReply};
+ghost use Rattle.pretree.specs.Walk.{found-by};
 
 impl Header {
     // "1 to 6 and 9 are refusals: counts 0, header, table and buffer untouched."
@@ -56,10 +57,16 @@ impl Header {
         let w = way_of(table, self, word, word as u64);
         let rows = w.rows(self.width);
         let stage = w.stage;
+        self.found_at(word, stage, w.key, rows)
+    }
+
+    fn found_at(self, word: u32, stage: Stage, key: u32, rows: u32) -> Reply
+        ensures { λ r. ⌜ r ≡ found-by self word key rows stage ⌝ }
+    {
         match stage {
             Stage::AtDamage => self.refused(Answer::Damage),
             Stage::AtRow => {
-                if w.key == word {
+                if word == key {
                     self.answered(Answer::Done, rows)
                 } else {
                     self.answered(Answer::NoSuchWord, rows)
