@@ -15,14 +15,14 @@ neither true b e = (e, cc)
 neither false b e = (refl, e)
 
 -- a header that is not refused
-pub record Right (h : Header) (table : List ℕ) : Type 0 where
+pub record RightHeader (h : Header) (table : List ℕ) : Type 0 where
   pub some-bits : 0 < h .width
   pub at-most-32 : h .width ≤ 32
   pub has-room : h .count ≤ capacity table
 
-pub right : (h : Header) (table : List ℕ) → wrong-header h table ≡ false → Right h table
+pub right-header : (h : Header) (table : List ℕ) → wrong-header h table ≡ false → RightHeader h table
 unfolding wrong-header
-right h table e =
+right-header h table e =
     let a = neither (eqb (h .width) 0 || ltb 32 (h .width)) (ltb (capacity table) (h .count)) e in
     let b = neither (eqb (h .width) 0) (ltb 32 (h .width)) (a .0) in
     record {

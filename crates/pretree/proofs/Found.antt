@@ -6,6 +6,7 @@ use mathlib.Core.List.{List, [], _∷_}
 use native.Mathlib.Nat.{add-zero}
 use lib.Dec.{eqb}
 use Rattle.ordered.specs.Such.{if_then_else_, such, no-such, only-if}
+use Rattle.ordered.specs.Tree.{Tree}
 use Rattle.ordered.specs.Way.{broken, isDamaged}
 use Rattle.ordered.specs.Reading.{rowsOf, brokenIn, keyAt, has}
 use Rattle.pretree.specs.declared.Header.{Header}
@@ -14,18 +15,24 @@ use Rattle.pretree.specs.declared.Reply.{Reply}
 use Rattle.pretree.specs.declared.walk.Stage.{Stage}
 use Rattle.pretree.specs.declared.walk.Stage.the-variants.{On, AtNone, AtRow, AtDamage}
 use Rattle.pretree.specs.declared.walk.Walk.{Walk}
+use Rattle.pretree.specs.Table.{rowAt}
 use Rattle.pretree.specs.Unfold.{shown}
 use Rattle.pretree.specs.Reply.{wrong-header, too-wide, refused, answered}
 use Rattle.pretree.specs.Find.{hasReply, saying, done}
-use Rattle.pretree.specs.Walk.{found-by, rowsRead, seeking, Walked}
-use Rattle.pretree.proofs.Ended.{following-is, endPart, Gone, all-gone, rows-gone}
+use Rattle.pretree.specs.Found.{found-by}
+use Rattle.pretree.specs.Walk.{rowsRead, seeking, Walked}
+use Rattle.pretree.proofs.Ended.{endPart, Gone, all-gone, rows-gone}
+use Rattle.pretree.proofs.Seeking.{following-is}
 
 module _ (h : Header) (table : List ℕ) (k : ℕ) (w : Walk) (fine : wrong-header h table ≡ false) (small : too-wide h k ≡ false)
-    (gone : Walked h table k k w) where
+    (gone : Walked (rowAt table) (seeking k k) (h .width) (h .count) (shown h table) w) where
+  abbrev end-part : Stage → Tree
+  end-part = endPart (rowAt table) (seeking k k) (h .width) (h .count) (shown h table) w gone
+
   pub found-at : (stage : Stage) → w .stage ≡ stage → hasReply h table k ≡ found-by h k (w .key) (rowsRead w (h .width)) stage
   unfolding hasReply has brokenIn broken rowsOf
   found-at stage at =
-      rw (fine, small, following-is k, rows-gone h table k k w gone, add-zero, all-gone h table k k w gone .end)
+      rw (fine, small, following-is k, rows-gone _ _ _ _ _ w gone, add-zero, all-gone _ _ _ _ _ w gone .end)
       (by-stage (w .stage) ∙ ap (found-by h k (w .key) (rowsRead w (h .width))) at)
     where
       by-key : (b : Bool)
@@ -35,8 +42,8 @@ module _ (h : Header) (table : List ℕ) (k : ℕ) (w : Walk) (fine : wrong-head
       by-key false = refl
 
       by-stage : (stage : Stage)
-          → (if isDamaged (endPart h table k k w gone stage) || false then refused h Damage
-          else answered h (saying done (only-if (eqb k) (keyAt (endPart h table k k w gone stage)))) (rowsRead w (h .width)))
+          → (if isDamaged (end-part stage) || false then refused h Damage
+          else answered h (saying done (only-if (eqb k) (keyAt (end-part stage)))) (rowsRead w (h .width)))
           ≡ found-by h k (w .key) (rowsRead w (h .width)) stage
       by-stage On = refl
       by-stage AtNone = refl

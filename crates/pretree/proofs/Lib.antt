@@ -2,6 +2,7 @@ pub mod Tests
 pub mod Checks
 pub mod Unfolding
 pub mod Walking
+pub mod Seeking
 pub mod Ended
 pub mod Found
 pub mod SoundTest

@@ -9,4 +9,5 @@ pub mod Add
 pub mod Del
 pub mod Whole
 pub mod Walk
+pub mod Found
 pub mod Starred

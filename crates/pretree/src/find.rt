@@ -3,13 +3,13 @@
 use crate::Answer;
 use crate::Header;
 use crate::Reply;
+use crate::seek::way_of;
 use crate::walk::Stage;
-use crate::walk::way_of;
 ghost use mathlib.Core.Path.{_≡_};
 ghost use mathlib.Core.Bool.{false};
 ghost use Rattle.pretree.specs.Reply.{wrong-header, too-wide, refused, answered};
 ghost use Rattle.pretree.specs.Find.{hasReply};
-ghost use Rattle.pretree.specs.Walk.{found-by};
+ghost use Rattle.pretree.specs.Found.{found-by};
 
 impl Header {
     // "1 to 6 and 9 are refusals: counts 0, header, table and buffer untouched."

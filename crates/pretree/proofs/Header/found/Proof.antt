@@ -1,6 +1,6 @@
 -- Where the walk ended says what is answered.
 use mathlib.Core.Path.{refl, sym, _∙_}
-use Rattle.pretree.proofs.Checks.{right}
+use Rattle.pretree.proofs.Checks.{right-header}
 use Rattle.pretree.proofs.Found.{found-at}
 use borrow.Author.Needs.{needs}
 use Rattle.pretree.proofs.Header.found.Statement.{statement}
@@ -12,7 +12,7 @@ way-of-requires c κs = search needs
 rows-requires : tie.Need-rows-requires
 rows-requires c κs =
     let a = c .before .before .args in
-    (c .way-of .ensures .walking .fits, right (a .self) (a .table .now) (search needs) .at-most-32)
+    (c .way-of .ensures .walking .fits, right-header (a .self) (a .table .now) (search needs) .at-most-32)
 
 found-at-requires : tie.Need-found-at-requires
 found-at-requires c κs = search needs

@@ -3,7 +3,7 @@ use mathlib.Core.Path.{_≡_, sym, _∙_}
 use mathlib.Core.Bool.{true, false}
 use Rattle.pretree.specs.Reply.{wrong-header, too-wide}
 use Rattle.pretree.specs.Find.{hasReply}
-use Rattle.pretree.proofs.Checks.{right}
+use Rattle.pretree.proofs.Checks.{right-header}
 use borrow.Author.Needs.{needs}
 use Rattle.pretree.proofs.Header.has.Statement.{statement}
 use Rattle.pretree.proofs.Header.has.Tie as tie
@@ -24,7 +24,7 @@ returns c =
 is-exceeded-by-requires : tie.Need-is-exceeded-by-requires
 is-exceeded-by-requires c κs =
     let a = c .before .before .before .args in
-    right (a .self) (a .table .now) (cc) .at-most-32
+    right-header (a .self) (a .table .now) (cc) .at-most-32
 
 refused-requires-2 : tie.Need-refused-requires-2
 refused-requires-2 c κs = search needs
