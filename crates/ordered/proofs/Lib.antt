@@ -4,3 +4,4 @@ pub mod Parts
 pub mod OneTree
 pub mod Ways
 pub mod Answers
+pub mod Rows
