@@ -5,3 +5,4 @@ pub mod OneTree
 pub mod Ways
 pub mod Answers
 pub mod Rows
+pub mod Unnumbered
