@@ -3,6 +3,8 @@ pub mod Bits
 pub mod Parts
 pub mod OneTree
 pub mod Ways
+pub mod Sought
 pub mod Answers
 pub mod Rows
 pub mod Unnumbered
+pub mod Grown

@@ -3,9 +3,11 @@ use Prim.Native.Nat.{ℕ, suc, _+_, _<_}
 use mathlib.Core.Path.{_≡_, refl, sym, ap, ap₂, _∙_}
 use mathlib.Core.Bool.{Bool, true, false, _||_, or-assoc, or-false}
 use mathlib.Core.List.{List, [], _∷_, _++_, List·Memᴰ, List·Memᴰ·head, List·Memᴰ·tail}
-use lib.Dec.{eqb}
+use native.Mathlib.Omega.{arith}
+use lib.Dec.{ltb, eqb}
+use borrow.Author.Tests.{lt-ltb, le-ltb, ne-eqb}
 use Rattle.ordered.specs.Such.{if_then_else_, Perhaps, no-such, such, first-of, only-if, first-such, last-such, anything}
-use Rattle.ordered.specs.Dictionary.{Above, none-above, one-above, Increasing, none-increasing, one-increasing, lookup}
+use Rattle.ordered.specs.Dictionary.{Above, none-above, one-above, Increasing, none-increasing, one-increasing, insert, lookup, delete}
 
 -- P holds of every element
 pub data All {A : Type 0} (P : A → Type 0) : List A → Type 0 where
@@ -134,3 +136,45 @@ no-lookup x (y ∷ ys) (one-all h hs) = rw (h, no-lookup x ys hs)
 pub lookup-between : (x : ℕ) (xs ys zs : List ℕ) → All (λ y. eqb x y ≡ false) xs → All (λ y. eqb x y ≡ false) zs → lookup x (xs ++ (ys ++ zs)) ≡ lookup x ys
 lookup-between x xs ys zs fail fail′ =
     rw (lookup-append x xs (ys ++ zs), no-lookup x xs fail, lookup-append x ys zs, no-lookup x zs fail′) (or-false (lookup x ys))
+
+-- insert and delete among three parts, of which the outer ones are below and above the word
+module _ (x : ℕ) where
+  pub insert-before : (zs : List ℕ) → All (λ z. x < z) zs → insert x zs ≡ x ∷ zs
+  unfolding insert
+  insert-before [] none-all = refl
+  insert-before (z ∷ zs) (one-all h hs) = rw (lt-ltb x z h)
+
+  insert-after : (xs ys : List ℕ) → All (λ y. y < x) xs → insert x (xs ++ ys) ≡ xs ++ insert x ys
+  unfolding insert
+  insert-after [] ys none-all = refl
+  insert-after (y ∷ xs) ys (one-all h hs) = rw (le-ltb x y (omega arith), ne-eqb x y (λ same. omega arith), insert-after xs ys hs)
+
+  insert-append : (ys zs : List ℕ) → All (λ z. x < z) zs → insert x (ys ++ zs) ≡ insert x ys ++ zs
+  unfolding insert
+  insert-append [] zs above = insert-before zs above
+  insert-append (y ∷ ys) zs above = rw (insert-append ys zs above) (either (ltb x y) (eqb x y))
+    where
+      either : (a b : Bool) → (if a then x ∷ y ∷ (ys ++ zs) else if b then y ∷ (ys ++ zs) else y ∷ (insert x ys ++ zs)) ≡ (if a then x ∷ y ∷ ys else if b then y ∷ ys else y ∷ insert x ys) ++ zs
+      either true b = refl
+      either false true = refl
+      either false false = refl
+
+  pub insert-between : (xs ys zs : List ℕ) → All (λ y. y < x) xs → All (λ z. x < z) zs → insert x (xs ++ (ys ++ zs)) ≡ xs ++ (insert x ys ++ zs)
+  insert-between xs ys zs below above = rw (insert-after xs (ys ++ zs) below, insert-append ys zs above)
+
+  pub delete-absent : (xs : List ℕ) → All (λ y. eqb x y ≡ false) xs → delete x xs ≡ xs
+  unfolding delete
+  delete-absent [] none-all = refl
+  delete-absent (y ∷ ys) (one-all h hs) = rw (h, delete-absent ys hs)
+
+  delete-append : (xs ys : List ℕ) → delete x (xs ++ ys) ≡ delete x xs ++ delete x ys
+  unfolding delete
+  delete-append [] ys = refl
+  delete-append (y ∷ xs) ys = rw (delete-append xs ys) (either (eqb x y))
+    where
+      either : (b : Bool) → (if b then delete x xs ++ delete x ys else y ∷ (delete x xs ++ delete x ys)) ≡ (if b then delete x xs else y ∷ delete x xs) ++ delete x ys
+      either true = refl
+      either false = refl
+
+  pub delete-between : (xs ys zs : List ℕ) → All (λ y. eqb x y ≡ false) xs → All (λ y. eqb x y ≡ false) zs → delete x (xs ++ (ys ++ zs)) ≡ xs ++ (delete x ys ++ zs)
+  delete-between xs ys zs below above = rw (delete-append xs (ys ++ zs), delete-append ys zs, delete-absent xs below, delete-absent zs above)

@@ -11,6 +11,7 @@ use Rattle.ordered.specs.Word.{Side, left, right, bitOf, side}
 use Rattle.ordered.specs.Tree.{Tree, none, row, damaged, Entry, part, listing, intact}
 use Rattle.ordered.specs.Proper.{Fitting, Proper-row, Proper}
 use Rattle.ordered.specs.Way.{Step, Way, Rule, Turn, stop, to, way, ending, passing, turning, broken, isDamaged, following, passing-equal}
+use Rattle.ordered.specs.Grown.{linking, linked}
 use Rattle.ordered.proofs.Parts.{All, none-all, one-all}
 
 -- where a way by the rule f ends: with no bit left, at an empty link, at damage, or at a row where the rule stops
@@ -65,20 +66,30 @@ module _ (key : ℕ) (aside : List ℕ) {xs : List ℕ} (a b c : List ℕ) (rest
   around-right : key ∷ (aside ++ xs) ≡ (key ∷ (aside ++ a)) ++ (b ++ (c ++ []))
   around-right = rw rest (simp (append-assoc, append-nil))
 
--- the listing is what lies left, what the way's end lists, what lies right
-pub parted : (f : Rule) (m : ℕ) (t : Tree) → let w : Way = way f m t in listing t ≡ lower (w .passed) ++ (listing (w .end) ++ upper (w .passed))
-unfolding listing lower upper
-parted f = along f (λ m t w. listing t ≡ lower (w .passed) ++ (listing (w .end) ++ upper (w .passed))) (λ m t ends. sym (append-nil (listing t))) goes
+-- so a tree linked from the rows of a way lists what lies left of the way, what is linked where it ended, and what lies right
+pub linked-listing : (ss : List Step) (t : Tree) → listing (linked ss t) ≡ lower ss ++ (listing t ++ upper ss)
+unfolding listing lower upper linked
+linked-listing [] t = sym (append-nil (listing t))
+linked-listing (s ∷ ss) t = around (s .turn) (linked-listing ss t)
   where
-    goes : (m i : ℕ) (e : Entry) (l r : Tree) (s : Side) → f m e l r ≡ to s
-        → (let w : Way = way f m (part s l r) in listing (part s l r) ≡ lower (w .passed) ++ (listing (w .end) ++ upper (w .passed)))
-        → (let w : Way = passing (step m i e l r s) (way f m (part s l r)) in listing (row i e l r) ≡ lower (w .passed) ++ (listing (w .end) ++ upper (w .passed)))
-    goes m i e l r left says rest =
-        let w : Way = way f m l in
-        around-left (e .key) (listing r) (lower (w .passed)) (listing (w .end)) (upper (w .passed)) rest
-    goes m i e l r right says rest =
-        let w : Way = way f m r in
-        around-right (e .key) (listing l) (lower (w .passed)) (listing (w .end)) (upper (w .passed)) rest
+    around : (turn : Side) → listing (linked ss t) ≡ lower ss ++ (listing t ++ upper ss)
+        → listing (linking (s .at) (s .entry) turn (s .left-part) (s .right-part) (linked ss t)) ≡ (s .entry .key ∷ (left-aside turn (s .left-part) ++ lower ss)) ++ (listing t ++ (upper ss ++ right-aside turn (s .right-part)))
+    around left rest = around-left (s .entry .key) (listing (s .right-part)) (lower ss) (listing t) (upper ss) rest
+    around right rest = around-right (s .entry .key) (listing (s .left-part)) (lower ss) (listing t) (upper ss) rest
+
+-- the rows of a way, linked again with the part at which it ended, are the tree
+pub linked-again : (f : Rule) (m : ℕ) (t : Tree) → linked (way f m t .passed) (way f m t .end) ≡ t
+unfolding linked
+linked-again f = along f (λ m t w. linked (w .passed) (w .end) ≡ t) (λ m t ends. refl) (λ m i e l r s says rest. ap (linking i e s l r) rest ∙ own i e s l r)
+  where
+    own : (i : ℕ) (e : Entry) (s : Side) (l r : Tree) → linking i e s l r (part s l r) ≡ row i e l r
+    own i e left l r = refl
+    own i e right l r = refl
+
+pub parted : (f : Rule) (m : ℕ) (t : Tree) → let w : Way = way f m t in listing t ≡ lower (w .passed) ++ (listing (w .end) ++ upper (w .passed))
+parted f m t =
+    let w : Way = way f m t in
+    sym (ap listing (linked-again f m t)) ∙ linked-listing (w .passed) (w .end)
 
 -- the parts on both sides of a row that is passed are proper
 abbrev pub Proper-step : Step → Type 0
@@ -145,3 +156,10 @@ following-seeks k m e l r = refl
 pub passing-equal-seeks : (k : ℕ) → Seeks (passing-equal k) (λ x. leb x k) k
 unfolding passing-equal
 passing-equal-seeks k m e l r = refl
+
+-- what a way ends at is without damage where its tree is
+pub end-intact : (f : Rule) (m : ℕ) (t : Tree) → intact t ≡ true → intact (way f m t .end) ≡ true
+unfolding intact
+end-intact f =
+    along f (λ m t w. intact t ≡ true → intact (w .end) ≡ true) (λ m t ends h. h)
+      (λ m i e l r s says rest h. rest (intact-part s l r h))
