@@ -162,4 +162,4 @@ pub end-intact : (f : Rule) (m : ℕ) (t : Tree) → intact t ≡ true → intac
 unfolding intact
 end-intact f =
     along f (λ m t w. intact t ≡ true → intact (w .end) ≡ true) (λ m t ends h. h)
-      (λ m i e l r s says rest h. rest (intact-part s l r h))
+    (λ m i e l r s says rest h. rest (intact-part s l r h))
