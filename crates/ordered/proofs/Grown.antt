@@ -12,14 +12,14 @@ use Rattle.ordered.specs.Word.{Side, left, right, bitOf, side, other}
 use Rattle.ordered.specs.Dictionary.{insert, delete}
 use Rattle.ordered.specs.Tree.{Tree, none, row, damaged, Entry, part, exists, listing}
 use Rattle.ordered.specs.Proper.{Fitting, Proper-row, Proper}
-use Rattle.ordered.specs.Way.{Step, Way, Rule, stop, to, way, passing, following, pushing, down}
+use Rattle.ordered.specs.Way.{Step, Way, Rule, stop, to, way, ending, passing, following, pushing, down}
 use Rattle.ordered.specs.Reading.{keyAt}
 use Rattle.ordered.specs.Change.{isThere, ends-at, left-over, entryAt}
 use Rattle.ordered.specs.Grown.{linking, linked, taking, shifted, entry-below, lifted, pushed-tree, popped-tree, grown, shrunk}
 use Rattle.ordered.proofs.Bits.{to-part, from-part, left-below-right, whole-path}
 use Rattle.ordered.proofs.Parts.{All, none-all, one-all, all-map, all-append, above-all, insert-before, insert-between, delete-absent, delete-between}
 use Rattle.ordered.proofs.OneTree.{keys-fit}
-use Rattle.ordered.proofs.Ways.{Stops, at-bottom, at-none, at-damage, at-stop, step, along, lower, upper, linked-listing, parted, turns-so, following-seeks}
+use Rattle.ordered.proofs.Ways.{Stops, at-bottom, at-none, at-damage, at-stop, step, along, lower, upper, linked-listing, linked-again, parted, turns-so, following-seeks}
 use Rattle.ordered.proofs.Sought.{Ends, at-no-row, at-last-bit, at-key, Sought, way-of}
 
 -- the least key may be any that is no greater than the keys
@@ -189,3 +189,140 @@ pop-goes m i e l r s says rest path low h there =
 pop-law : (m : ℕ) (t : Tree) → Popped m t (way (down left) m t)
 unfolding Popped linked lifted
 pop-law = along (down left) (λ m t w. Popped m t w) pop-ends pop-goes
+
+-- the way of k in a proper tree into which k fits: where it ends k fits too, and what is proper there is proper in the whole, linked by the
+-- rows of the way
+record Opened (k m path low : ℕ) (w : Way) : Type 0 where
+  end-low : ℕ
+  end-from : end-low ≤ k
+  end-proper : Proper (w .bits) (k / 2 ^ w .bits) end-low (w .end)
+  links : (u : Tree) → Proper (w .bits) (k / 2 ^ w .bits) end-low u → Proper m path low (linked (w .passed) u)
+
+opened : (k m : ℕ) (t : Tree) (path low : ℕ) → Fitting m path low k → Proper m path low t → Opened k m path low (way (following k) m t)
+unfolding Proper linked
+opened k = along (following k) (λ m t w. (path low : ℕ) → Fitting m path low k → Proper m path low t → Opened k m path low w) ends goes
+  where
+    ends : (m : ℕ) (t : Tree) → Stops (following k) m t → (path low : ℕ) → Fitting m path low k → Proper m path low t → Opened k m path low (ending m t)
+    ends m t stops path low fits h =
+        record { end-low = low; end-from = fits .not-below; end-proper = rw (fits .on-path) h; links = λ u k. rw (fits .on-path) at k }
+
+    goes : (m i : ℕ) (e : Entry) (l r : Tree) (s : Side) → following k m e l r ≡ to s
+        → ((path low : ℕ) → Fitting m path low k → Proper m path low (part s l r) → Opened k m path low (way (following k) m (part s l r)))
+        → (path low : ℕ) → Fitting (suc m) path low k → Proper (suc m) path low (row i e l r) → Opened k (suc m) path low (passing (step m i e l r s) (way (following k) m (part s l r)))
+    goes m i e l r s says rest path low fits h =
+        let turn : (ltb (e .key) k ≡ true) × (side m k ≡ s) = turns-so (following k) (λ x. ltb x k) k (following-seeks k) m e l r s says in
+        let below : Opened k m (path * 2 + bitOf s) (suc (e .key)) (way (following k) m (part s l r)) =
+        rest (path * 2 + bitOf s) (suc (e .key)) (record { not-below = ltb-true (e .key) k (turn .0); on-path = to-part m k path s (fits .on-path) (turn .1) }) (h .parts s) in
+        record {
+          end-low = below .end-low;
+          end-from = below .end-from;
+          end-proper = below .end-proper;
+          links = λ u proper. linking-proper m path low i e s l r (linked (way (following k) m (part s l r) .passed) u) (h .key-fits) (h .parts (other s)) (below .links u proper);
+        }
+
+-- k is the key of the row at which its way ends
+data Present (k : ℕ) : Tree → Type 0 where
+  present : {i : ℕ} {e : Entry} {l r : Tree} → e .key ≡ k → Present k (row i e l r)
+
+-- it is, or all that is listed there is greater
+meeting : (k : ℕ) {u : Tree} → Ends (λ x. ltb x k) k u → (P : Bool → Type 0) → (Present k u → P true) → (All (λ x. k < x) (listing u) → P false) → P (isThere (only-if (eqb k) (keyAt u)))
+unfolding listing
+meeting k at-no-row P here beyond = beyond none-all
+meeting k (at-last-bit {e} same) P here beyond = rw (eq-eqb k (e .key) (sym same)) (here (present same))
+meeting k (at-key {i} {e} {l} {r} stops above) P here beyond = either (eqb k (e .key)) refl
+  where
+    either : (b : Bool) → eqb k (e .key) ≡ b → P (isThere (if b then such (e .key) else no-such))
+    either true same = here (present (sym (eqb-true k (e .key) same)))
+    either false differs =
+        let less : k < e .key = omega (arith, eqb-false k (e .key) differs, ltb-false (e .key) k stops) in
+        beyond (one-all less (all-map (λ x above. omega arith) (above-all above)))
+
+there : (k : ℕ) {u : Tree} → Present k u → exists u ≡ true
+there k (present same) = refl
+
+own-entry : (k : ℕ) {u : Tree} → Present k u → entryAt u .key ≡ k
+own-entry k (present same) = same
+
+insert-present : (k : ℕ) {u : Tree} → Present k u → insert k (listing u) ≡ listing u
+unfolding insert listing
+insert-present k (present {e} same) = rw (le-ltb k (e .key) (omega arith), eq-eqb k (e .key) (sym same))
+
+module _ (m k path low : ℕ) (t : Tree) (fits : Fitting m path low k) (h : Proper m path low t) where
+  abbrev the-way : Way
+  the-way = way (following k) m t
+
+  abbrev here : ℕ
+  here = k / 2 ^ the-way .bits
+
+  found : Sought (λ x. ltb x k) k the-way
+  found = way-of m k path low t (fits .on-path) h
+
+  open-there : Opened k m path low the-way
+  open-there = opened k m t path low fits h
+
+  lists-around : (u : Tree) {xs : List ℕ} → listing u ≡ xs → listing (linked (the-way .passed) u) ≡ lower (the-way .passed) ++ (xs ++ upper (the-way .passed))
+  lists-around u same = linked-listing (the-way .passed) u ∙ ap (λ ys. lower (the-way .passed) ++ (ys ++ upper (the-way .passed))) same
+
+  inserted : insert k (listing t) ≡ lower (the-way .passed) ++ (insert k (listing (the-way .end)) ++ upper (the-way .passed))
+  inserted =
+      ap (insert k) (parted (following k) m t)
+      ∙ insert-between k (lower (the-way .passed)) (listing (the-way .end)) (upper (the-way .passed)) (all-map (λ x. ltb-true x k) (found .left-passes)) (found .right-above)
+
+  deleted : delete k (listing t) ≡ lower (the-way .passed) ++ (delete k (listing (the-way .end)) ++ upper (the-way .passed))
+  deleted =
+      ap (delete k) (parted (following k) m t)
+      ∙ delete-between k (lower (the-way .passed)) (listing (the-way .end)) (upper (the-way .passed)) (all-map (λ x less. ne-eqb k x (λ same. omega (arith, ltb-true x k less))) (found .left-passes)) (all-map (λ x less. ne-eqb k x (λ same. omega arith)) (found .right-above))
+
+  -- `add`: where k is not at the end of its way, it is pushed there before all that is listed
+  module _ (n : ℕ) where
+    abbrev new-part : Tree
+    new-part = pushed-tree n (the-way .bits) (record { key = k }) (the-way .end)
+
+    push-there : All (λ x. k < x) (listing (the-way .end)) → Proper (the-way .bits) here k new-part × (listing new-part ≡ k ∷ listing (the-way .end))
+    unfolding pushed-tree Pushed
+    push-there beyond =
+        push-law n (the-way .bits) (the-way .end) (record { key = k }) here refl
+        (proper-from (the-way .bits) here (open-there .end-low) (suc k) (the-way .end) (open-there .end-proper) beyond)
+
+    pub grown-proper : Proper m path low (grown n m k t)
+    unfolding grown
+    grown-proper =
+        meeting k (found .ends) (λ b. Proper m path low (if b then t else linked (the-way .passed) new-part)) (λ is-there. h)
+        (λ beyond. open-there .links new-part (proper-lower (the-way .bits) here k (open-there .end-low) new-part (open-there .end-from) (push-there beyond .0)))
+
+    pub grown-listing : listing (grown n m k t) ≡ insert k (listing t)
+    unfolding grown
+    grown-listing =
+        meeting k (found .ends) (λ b. listing (if b then t else linked (the-way .passed) new-part) ≡ insert k (listing t))
+        (λ is-there. sym (ap listing (linked-again (following k) m t)) ∙ lists-around (the-way .end) (sym (insert-present k is-there)) ∙ sym inserted)
+        (λ beyond. lists-around new-part (push-there beyond .1 ∙ sym (insert-before k (listing (the-way .end)) beyond)) ∙ sym inserted)
+
+  -- `del`: where k is at the end of its way, the first word listed there is taken away
+  abbrev rest-part : Tree
+  rest-part = popped-tree (the-way .bits) (the-way .end)
+
+  pop-there : Present k (the-way .end) → Proper (the-way .bits) here (suc k) rest-part × (k ∷ listing rest-part ≡ listing (the-way .end))
+  unfolding popped-tree Popped
+  pop-there is-there =
+      rw (own-entry k is-there) at
+      (pop-law (the-way .bits) (the-way .end) here (open-there .end-low) (open-there .end-proper) (there k is-there))
+
+  pop-deletes : Present k (the-way .end) → listing rest-part ≡ delete k (listing (the-way .end))
+  unfolding delete
+  pop-deletes is-there =
+      rw (← pop-there is-there .1, eq-eqb k k refl)
+      (sym (delete-absent k (listing rest-part) (all-map (λ x f. ne-eqb k x (λ same. omega (arith, f .not-below))) (keys-fit (the-way .bits) here (suc k) rest-part (pop-there is-there .0)))))
+
+  pub shrunk-proper : Proper m path low (shrunk m k t)
+  unfolding shrunk
+  shrunk-proper =
+      meeting k (found .ends) (λ b. Proper m path low (if b then linked (the-way .passed) rest-part else t))
+      (λ is-there. open-there .links rest-part (proper-lower (the-way .bits) here (suc k) (open-there .end-low) rest-part (omega (arith, open-there .end-from)) (pop-there is-there .0)))
+      (λ beyond. h)
+
+  pub shrunk-listing : listing (shrunk m k t) ≡ delete k (listing t)
+  unfolding shrunk
+  shrunk-listing =
+      meeting k (found .ends) (λ b. listing (if b then linked (the-way .passed) rest-part else t) ≡ delete k (listing t))
+      (λ is-there. lists-around rest-part (pop-deletes is-there) ∙ sym deleted)
+      (λ beyond. sym (ap listing (linked-again (following k) m t)) ∙ lists-around (the-way .end) (sym (delete-absent k (listing (the-way .end)) (all-map (λ x less. ne-eqb k x (λ same. omega arith)) beyond))) ∙ sym deleted)
