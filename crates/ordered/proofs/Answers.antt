@@ -12,13 +12,14 @@ use Rattle.ordered.specs.Word.{Side, left, right, bitOf, side, isSide}
 use Rattle.ordered.specs.Dictionary.{Above, lookup, min, max, successor, predecessor}
 use Rattle.ordered.specs.Tree.{Tree, none, row, damaged, Entry, part, exists, listing}
 use Rattle.ordered.specs.Proper.{Fitting, Proper-row, Proper}
-use Rattle.ordered.specs.Way.{Step, Way, Rule, Turn, stop, to, way, turning, passing, broken, isDamaged, following, passing-equal, down, staying}
+use Rattle.ordered.specs.Way.{Step, Way, Rule, Turn, stop, to, way, turning, passing, broken, isDamaged, joined, following, passing-equal, pushing, down, staying}
 use Rattle.ordered.specs.Reading.{Reading, brokenIn, keyAt, to-its-end, has, right-left-aside, right-child, next-by, next, left-left-aside, prev-by, prev, first, last, nearest, gap-by, gap}
+use Rattle.ordered.specs.Change.{Adding, Erasing, isThere, ends-at, adding-by, adding, erasing-by, erasing}
 use Rattle.ordered.proofs.Bits.{to-part, left-below-right, whole-path}
 use Rattle.ordered.proofs.Parts.{All, none-all, one-all, all-map, all-append, all-above, above-all, first-of-no-such, first-such-append, last-such-append, same-first, same-last, no-first, no-last, If-such, last-such-all, last-such-one, first-between, last-between, no-lookup, lookup-between}
 use Rattle.ordered.proofs.OneTree.{keys-fit, parts-above, proper-intact}
 use Rattle.ordered.proofs.Sought.{Ends, at-no-row, at-last-bit, at-key, Sought, way-of, way-past}
-use Rattle.ordered.proofs.Ways.{Stops, at-bottom, at-none, at-damage, at-stop, step, along, left-aside, right-aside, lower, upper, parted, Proper-step, passed-proper, and-true, intact-here, unbroken, Seeks, turns-so, stops-so, passed-pass, following-seeks, passing-equal-seeks}
+use Rattle.ordered.proofs.Ways.{Stops, at-bottom, at-none, at-damage, at-stop, step, along, left-aside, right-aside, lower, upper, parted, Proper-step, passed-proper, and-true, intact-here, unbroken, end-intact, Seeks, turns-so, stops-so, passed-pass, following-seeks, passing-equal-seeks}
 
 not-damaged : (m path low : ℕ) (t : Tree) → Proper m path low t → isDamaged t ≡ false
 not-damaged m path low t h = intact-here t (proper-intact m path low t h)
@@ -337,3 +338,57 @@ module _ (m path low : ℕ) (t : Tree) (h : Proper m path low t) where
       either : (q : Perhaps ℕ) → Unbroken (gap-by k (prev m k t) (next m k t) q (has m k t .ways) .ways)
       either (such x) = has-ways k
       either no-such = all-append (prev-ways k) (next-ways k)
+
+-- `add` and `del` find the word if it is there, and none of the rows that they read is damaged
+is-there : (b : Bool) (k : ℕ) → isThere (if b then such k else no-such) ≡ b
+is-there true k = refl
+is-there false k = refl
+
+ends-there : (m k path low : ℕ) (t : Tree) → k / 2 ^ m ≡ path → Proper m path low t → ends-at k (way (following k) m t) ≡ lookup k (listing t)
+unfolding has
+ends-there m k path low t on h = ap isThere (has-answer m k path low t on h) ∙ is-there (lookup k (listing t)) k
+
+pub adding-present : (m k path low : ℕ) (t : Tree) → k / 2 ^ m ≡ path → Proper m path low t → adding m k t .present ≡ lookup k (listing t)
+unfolding adding
+adding-present m k path low t on h =
+    let w : Way = way (following k) m t in
+    let push : Way = way pushing (w .bits) (w .end) in
+    either w push (ends-at k w) ∙ ends-there m k path low t on h
+  where
+    either : (w push : Way) (b : Bool) → adding-by k w push (joined w push) b .present ≡ b
+    either w push true = refl
+    either w push false = refl
+
+pub erasing-present : (m k path low : ℕ) (t : Tree) → k / 2 ^ m ≡ path → Proper m path low t → erasing m k t .present ≡ lookup k (listing t)
+unfolding erasing
+erasing-present m k path low t on h =
+    let w : Way = way (following k) m t in
+    let stretch : Way = way (down left) (w .bits) (w .end) in
+    either w stretch (ends-at k w) ∙ ends-there m k path low t on h
+  where
+    either : (w stretch : Way) (b : Bool) → erasing-by w stretch (joined w stretch) b .present ≡ b
+    either w stretch true = refl
+    either w stretch false = refl
+
+-- a way that goes on from its end
+joined-unbroken : (f g : Rule) (m path low : ℕ) (t : Tree) → Proper m path low t → let w : Way = way f m t in broken (joined w (way g (w .bits) (w .end))) ≡ false
+unfolding joined broken
+joined-unbroken f g m path low t h =
+    let w : Way = way f m t in
+    unbroken g (w .bits) (w .end) (end-intact f m t (proper-intact m path low t h))
+
+pub adding-unbroken : (m k path low : ℕ) (t : Tree) → Proper m path low t → broken (adding m k t .rows-read) ≡ false
+unfolding adding
+adding-unbroken m k path low t h = either (ends-at k (way (following k) m t))
+  where
+    either : (b : Bool) → let w : Way = way (following k) m t in let push : Way = way pushing (w .bits) (w .end) in broken (adding-by k w push (joined w push) b .rows-read) ≡ false
+    either true = one-unbroken m path low t h (following k)
+    either false = joined-unbroken (following k) pushing m path low t h
+
+pub erasing-unbroken : (m k path low : ℕ) (t : Tree) → Proper m path low t → broken (erasing m k t .rows-read) ≡ false
+unfolding erasing
+erasing-unbroken m k path low t h = either (ends-at k (way (following k) m t))
+  where
+    either : (b : Bool) → let w : Way = way (following k) m t in let stretch : Way = way (down left) (w .bits) (w .end) in broken (erasing-by w stretch (joined w stretch) b .rows-read) ≡ false
+    either true = joined-unbroken (following k) (down left) m path low t h
+    either false = one-unbroken m path low t h (following k)

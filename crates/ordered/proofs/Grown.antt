@@ -10,15 +10,15 @@ use borrow.Author.Tests.{ltb-true, ltb-false, eqb-true, eqb-false, le-ltb, eq-eq
 use Rattle.ordered.specs.Such.{if_then_else_, Perhaps, no-such, such, only-if}
 use Rattle.ordered.specs.Word.{Side, left, right, bitOf, side, other}
 use Rattle.ordered.specs.Dictionary.{insert, delete}
-use Rattle.ordered.specs.Tree.{Tree, none, row, damaged, Entry, part, exists, listing}
+use Rattle.ordered.specs.Tree.{Tree, none, row, damaged, Entry, part, exists, listing, unnumbered, treeOf}
 use Rattle.ordered.specs.Proper.{Fitting, Proper-row, Proper}
 use Rattle.ordered.specs.Way.{Step, Way, Rule, stop, to, way, ending, passing, following, pushing, down}
 use Rattle.ordered.specs.Reading.{keyAt}
-use Rattle.ordered.specs.Change.{isThere, ends-at, left-over, entryAt}
+use Rattle.ordered.specs.Change.{Take, pushed, raised, isThere, ends-at, left-over, entryAt}
 use Rattle.ordered.specs.Grown.{linking, linked, taking, shifted, entry-below, lifted, pushed-tree, popped-tree, grown, shrunk}
 use Rattle.ordered.proofs.Bits.{to-part, from-part, left-below-right, whole-path}
 use Rattle.ordered.proofs.Parts.{All, none-all, one-all, all-map, all-append, above-all, insert-before, insert-between, delete-absent, delete-between}
-use Rattle.ordered.proofs.OneTree.{keys-fit}
+use Rattle.ordered.proofs.OneTree.{keys-fit, one-tree}
 use Rattle.ordered.proofs.Ways.{Stops, at-bottom, at-none, at-damage, at-stop, step, along, lower, upper, linked-listing, linked-again, parted, turns-so, following-seeks}
 use Rattle.ordered.proofs.Sought.{Ends, at-no-row, at-last-bit, at-key, Sought, way-of}
 
@@ -326,3 +326,33 @@ module _ (m k path low : ℕ) (t : Tree) (fits : Fitting m path low k) (h : Prop
       meeting k (found .ends) (λ b. listing (if b then linked (the-way .passed) rest-part else t) ≡ delete k (listing t))
       (λ is-there. lists-around rest-part (pop-deletes is-there) ∙ sym deleted)
       (λ beyond. sym (ap listing (linked-again (following k) m t)) ∙ lists-around (the-way .end) (sym (delete-absent k (listing (the-way .end)) (all-map (λ x less. ne-eqb k x (λ same. omega arith)) beyond))) ∙ sym deleted)
+
+-- so row numbers apart they are the PreTrees of the dictionary's next sets
+pub grown-tree : (n m k path low : ℕ) (t : Tree) → Fitting m path low k → Proper m path low t → unnumbered (grown n m k t) ≡ treeOf m (insert k (listing t))
+grown-tree n m k path low t fits h =
+    one-tree m path low (grown n m k t) (grown-proper m k path low t fits h n) ∙ ap (treeOf m) (grown-listing m k path low t fits h n)
+
+pub shrunk-tree : (m k path low : ℕ) (t : Tree) → Fitting m path low k → Proper m path low t → unnumbered (shrunk m k t) ≡ treeOf m (delete k (listing t))
+shrunk-tree m k path low t fits h =
+    one-tree m path low (shrunk m k t) (shrunk-proper m k path low t fits h) ∙ ap (treeOf m) (shrunk-listing m k path low t fits h)
+
+-- these trees are what the takes of `add` and `del` say: each row that takes an entry has it
+abbrev pub taken-by : List Step → List Take
+taken-by [] = []
+taken-by (s ∷ ss) = record { at = s .at; entry = s .entry } ∷ taken-by ss
+
+pub shifted-takes : (e : Entry) (ss : List Step) → taken-by (shifted e ss) ≡ pushed e ss
+unfolding shifted pushed
+shifted-takes e [] = refl
+shifted-takes e (s ∷ ss) = ap (λ ts. record { at = s .at; entry = e } ∷ ts) (shifted-takes (s .entry) ss)
+
+pub lifted-takes : (ss : List Step) (hole : Entry) → taken-by (lifted ss hole) ≡ raised ss hole
+unfolding lifted raised
+lifted-takes [] hole = refl
+lifted-takes (s ∷ []) hole = refl
+lifted-takes (s ∷ (t ∷ ss)) hole = ap (λ ts. record { at = s .at; entry = t .entry } ∷ ts) (lifted-takes (t ∷ ss) hole)
+
+pub linked-append : (ss us : List Step) (t : Tree) → linked (ss ++ us) t ≡ linked ss (linked us t)
+unfolding linked
+linked-append [] us t = refl
+linked-append (s ∷ ss) us t = ap (linking (s .at) (s .entry) (s .turn) (s .left-part) (s .right-part)) (linked-append ss us t)
