@@ -1,25 +1,24 @@
 -- The answers of the reading calls: on a proper tree with m bits left, for a word on its path, they are the dictionary's on the words that
 -- the tree lists, and no way is broken.
-use Prim.Native.Nat.{ℕ, zero, suc, _+_, _*_, _/_, _^_, _≤_, _<_}
+use Prim.Native.Nat.{ℕ, zero, suc, _+_, _*_, _/_, _^_}
 use mathlib.Core.Path.{_≡_, refl, sym, ap, ap₂, _∙_}
-use mathlib.Core.Bool.{Bool, true, false, _&&_, _||_}
+use mathlib.Core.Bool.{Bool, true, false, _||_}
 use mathlib.Core.List.{List, [], _∷_, _++_, append-nil}
 use native.Mathlib.Omega.{arith}
 use lib.Dec.{ltb, leb, eqb}
-use borrow.Author.Tests.{ltb-true, ltb-false, leb-true, leb-false, eqb-true, lt-ltb, le-ltb, le-leb, eq-eqb, ne-eqb}
+use borrow.Author.Tests.{ltb-true, ltb-false, leb-true, leb-false, eqb-true, lt-ltb, le-ltb, eq-eqb, ne-eqb}
 use Rattle.ordered.specs.Such.{if_then_else_, Perhaps, no-such, such, first-of, only-if, first-such, last-such, anything}
-use Rattle.ordered.specs.Word.{Side, left, right, bitOf, side, isSide}
-use Rattle.ordered.specs.Dictionary.{Above, lookup, min, max, successor, predecessor}
+use Rattle.ordered.specs.Word.{Side, left, right, bitOf, isSide}
+use Rattle.ordered.specs.Dictionary.{lookup, min, max, successor, predecessor}
 use Rattle.ordered.specs.Tree.{Tree, none, row, damaged, Entry, part, exists, listing}
-use Rattle.ordered.specs.Proper.{Fitting, Proper-row, Proper}
-use Rattle.ordered.specs.Way.{Step, Way, Rule, Turn, stop, to, way, turning, passing, broken, isDamaged, joined, following, passing-equal, pushing, down, staying}
-use Rattle.ordered.specs.Reading.{Reading, brokenIn, keyAt, to-its-end, has, right-left-aside, right-child, next-by, next, left-left-aside, prev-by, prev, first, last, nearest, gap-by, gap}
-use Rattle.ordered.specs.Change.{Adding, Erasing, isThere, ends-at, adding-by, adding, erasing-by, erasing}
-use Rattle.ordered.proofs.Bits.{to-part, left-below-right, whole-path}
-use Rattle.ordered.proofs.Parts.{All, none-all, one-all, all-map, all-append, all-above, above-all, first-of-no-such, first-such-append, last-such-append, same-first, same-last, no-first, no-last, If-such, last-such-all, last-such-one, first-between, last-between, no-lookup, lookup-between}
-use Rattle.ordered.proofs.OneTree.{keys-fit, parts-above, proper-intact}
+use Rattle.ordered.specs.Proper.{Proper}
+use Rattle.ordered.specs.Way.{Step, Way, Rule, stop, to, way, turning, broken, isDamaged, joined, following, passing-equal, pushing, down, staying}
+use Rattle.ordered.specs.Reading.{brokenIn, keyAt, to-its-end, has, right-left-aside, right-child, next-by, next, left-left-aside, prev-by, prev, first, last, nearest, gap-by, gap}
+use Rattle.ordered.specs.Change.{isThere, ends-at, adding-by, adding, erasing-by, erasing}
+use Rattle.ordered.proofs.Parts.{All, none-all, one-all, all-map, all-append, above-all, first-of-no-such, first-such-append, last-such-append, same-last, no-last, If-such, last-such-all, last-such-one, first-between, last-between, no-lookup, lookup-between}
+use Rattle.ordered.proofs.OneTree.{proper-intact}
 use Rattle.ordered.proofs.Sought.{Ends, at-no-row, at-last-bit, at-key, Sought, way-of, way-past}
-use Rattle.ordered.proofs.Ways.{Stops, at-bottom, at-none, at-damage, at-stop, step, along, left-aside, right-aside, lower, upper, parted, Proper-step, passed-proper, and-true, intact-here, unbroken, end-intact, Seeks, turns-so, stops-so, passed-pass, following-seeks, passing-equal-seeks}
+use Rattle.ordered.proofs.Ways.{step, left-aside, right-aside, lower, upper, parted, Proper-step, passed-proper, and-true, intact-here, unbroken, end-intact, passed-pass, following-seeks}
 
 not-damaged : (m path low : ℕ) (t : Tree) → Proper m path low t → isDamaged t ≡ false
 not-damaged m path low t h = intact-here t (proper-intact m path low t h)

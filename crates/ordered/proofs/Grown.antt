@@ -7,17 +7,17 @@ use native.Mathlib.Nat.{le-refl}
 use native.Mathlib.Omega.{arith}
 use lib.Dec.{ltb, eqb}
 use borrow.Author.Tests.{ltb-true, ltb-false, eqb-true, eqb-false, le-ltb, eq-eqb, ne-eqb}
-use Rattle.ordered.specs.Such.{if_then_else_, Perhaps, no-such, such, only-if}
+use Rattle.ordered.specs.Such.{if_then_else_, no-such, such, only-if}
 use Rattle.ordered.specs.Word.{Side, left, right, bitOf, side, other}
 use Rattle.ordered.specs.Dictionary.{insert, delete}
 use Rattle.ordered.specs.Tree.{Tree, none, row, damaged, Entry, part, exists, listing, unnumbered, treeOf}
-use Rattle.ordered.specs.Proper.{Fitting, Proper-row, Proper}
+use Rattle.ordered.specs.Proper.{Fitting, Proper}
 use Rattle.ordered.specs.Way.{Step, Way, Rule, stop, to, way, ending, passing, following, pushing, down}
 use Rattle.ordered.specs.Reading.{keyAt}
-use Rattle.ordered.specs.Change.{Take, pushed, raised, isThere, ends-at, left-over, entryAt}
-use Rattle.ordered.specs.Grown.{linking, linked, taking, shifted, entry-below, lifted, pushed-tree, popped-tree, grown, shrunk}
+use Rattle.ordered.specs.Change.{Take, pushed, raised, isThere, left-over, entryAt}
+use Rattle.ordered.specs.Grown.{linking, linked, shifted, entry-below, lifted, pushed-tree, popped-tree, grown, shrunk}
 use Rattle.ordered.proofs.Bits.{to-part, from-part, left-below-right, whole-path}
-use Rattle.ordered.proofs.Parts.{All, none-all, one-all, all-map, all-append, above-all, insert-before, insert-between, delete-absent, delete-between}
+use Rattle.ordered.proofs.Parts.{All, none-all, one-all, all-map, above-all, insert-before, insert-between, delete-absent, delete-between}
 use Rattle.ordered.proofs.OneTree.{keys-fit, one-tree}
 use Rattle.ordered.proofs.Ways.{Stops, at-bottom, at-none, at-damage, at-stop, step, along, lower, upper, linked-listing, linked-again, parted, turns-so, following-seeks}
 use Rattle.ordered.proofs.Sought.{Ends, at-no-row, at-last-bit, at-key, Sought, way-of}

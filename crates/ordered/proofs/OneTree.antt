@@ -2,15 +2,15 @@
 -- a set is proper and lists the set.
 use Prim.Native.Nat.{ℕ, zero, suc, _+_, _*_, _/_, _^_, _≤_, _<_}
 use mathlib.Core.Path.{_≡_, refl, sym, ap, ap₂, _∙_, subst}
-use mathlib.Core.Bool.{Bool, true, false, _&&_}
+use mathlib.Core.Bool.{Bool, true, false}
 use mathlib.Core.List.{List, [], _∷_, _++_, append-nil}
 use native.Mathlib.Omega.{arith}
 use lib.ListN.{length, length-append}
 use Rattle.ordered.specs.Such.{if_then_else_}
 use Rattle.ordered.specs.Word.{Side, left, right, bitOf, side, other, isSide}
 use Rattle.ordered.specs.Dictionary.{Above, none-above, one-above, Increasing, none-increasing, one-increasing}
-use Rattle.ordered.specs.Tree.{Tree, none, row, damaged, Entry, part, listing, size, intact, unnumbered, going, treeOf}
-use Rattle.ordered.specs.Proper.{Fitting, Proper-row, Proper}
+use Rattle.ordered.specs.Tree.{Tree, none, row, damaged, part, listing, size, intact, unnumbered, going, treeOf}
+use Rattle.ordered.specs.Proper.{Fitting, Proper}
 use Rattle.ordered.proofs.Bits.{to-part, from-part, side-of-part, left-below-right, by-sides, whole-path}
 use Rattle.ordered.proofs.Parts.{All, none-all, one-all, all-map, all-append, all-both, all-above, above-all, append-increasing}
 

@@ -1,18 +1,18 @@
 -- The bounds on the rows that a call reads, on every tree, damaged ones too: each is one law of every way, used once or twice.
-use Prim.Native.Nat.{ℕ, zero, suc, _+_, _*_, _≤_, _<_}
-use mathlib.Core.Path.{_≡_, refl, sym, ap, _∙_}
+use Prim.Native.Nat.{ℕ, zero, suc, _+_, _*_, _≤_}
+use mathlib.Core.Path.{_≡_, refl, sym}
 use mathlib.Core.Bool.{Bool, true, false}
 use mathlib.Core.List.{List, [], _∷_, _++_}
 use native.Mathlib.Nat.{zero-add}
 use native.Mathlib.Omega.{arith}
-use lib.Dec.{ltb, eqb}
+use lib.Dec.{ltb}
 use lib.ListN.{length, length-append}
 use Rattle.ordered.specs.Such.{if_then_else_, Perhaps, no-such, such, first-of, only-if, last-such, anything}
 use Rattle.ordered.specs.Word.{Side, left, right}
 use Rattle.ordered.specs.Tree.{Tree, none, row, damaged, Entry, part}
-use Rattle.ordered.specs.Way.{Step, Way, Rule, to, way, rows, endRows, ending, joined, following, passing-equal, pushing, down, staying}
-use Rattle.ordered.specs.Reading.{Reading, rowsOf, keyAt, to-its-end, has, right-left-aside, next-by, next, left-left-aside, prev-by, prev, first, last, gap-by, gap}
-use Rattle.ordered.specs.Change.{Adding, Erasing, adding-by, adding, erasing-by, erasing, ends-at}
+use Rattle.ordered.specs.Way.{Step, Way, Rule, way, rows, endRows, joined, following, passing-equal, pushing, down, staying}
+use Rattle.ordered.specs.Reading.{rowsOf, keyAt, to-its-end, has, right-left-aside, next-by, next, left-left-aside, prev-by, prev, first, last, gap-by, gap}
+use Rattle.ordered.specs.Change.{adding-by, adding, erasing-by, erasing, ends-at}
 use Rattle.ordered.proofs.Parts.{same-last}
 use Rattle.ordered.proofs.Ways.{step, along, passed-pass, following-seeks}
 

@@ -9,8 +9,8 @@ use borrow.Author.Tests.{lt-ltb, le-leb}
 use Rattle.ordered.specs.Word.{Side, left, right, bitOf, side}
 use Rattle.ordered.specs.Dictionary.{Above}
 use Rattle.ordered.specs.Tree.{Tree, none, row, damaged, Entry, part, listing}
-use Rattle.ordered.specs.Proper.{Fitting, Proper-row, Proper}
-use Rattle.ordered.specs.Way.{Step, Way, Rule, to, way, passing, following, passing-equal}
+use Rattle.ordered.specs.Proper.{Proper}
+use Rattle.ordered.specs.Way.{Way, Rule, to, way, passing, following, passing-equal}
 use Rattle.ordered.proofs.Bits.{to-part, left-below-right, whole-path}
 use Rattle.ordered.proofs.Parts.{All, none-all, one-all, all-map, all-append, all-above}
 use Rattle.ordered.proofs.OneTree.{keys-fit, parts-above}

@@ -1,18 +1,18 @@
 -- Ways do not see row numbers: every call reads as many rows of a tree, and finds the same, as of the tree without its row numbers, and so
 -- as of the PreTree of the words that it lists.
 use Prim.Native.Nat.{ℕ, zero, suc, _+_}
-use mathlib.Core.Path.{_≡_, refl, sym, ap, ap₂, _∙_}
+use mathlib.Core.Path.{_≡_, refl, ap, ap₂}
 use mathlib.Core.Bool.{Bool, true, false, _&&_}
 use mathlib.Core.List.{List, [], _∷_, _++_}
-use lib.Dec.{ltb, eqb}
+use lib.Dec.{ltb}
 use lib.ListN.{length}
 use Rattle.ordered.specs.Such.{if_then_else_, Perhaps, no-such, such, first-of, only-if, last-such}
-use Rattle.ordered.specs.Word.{Side, left, right, isSide, other}
-use Rattle.ordered.specs.Tree.{Tree, none, row, damaged, Entry, part, exists, listing, unnumbered, treeOf}
+use Rattle.ordered.specs.Word.{Side, left, right, isSide}
+use Rattle.ordered.specs.Tree.{Tree, none, row, damaged, Entry, exists, listing, unnumbered, treeOf}
 use Rattle.ordered.specs.Proper.{Proper}
-use Rattle.ordered.specs.Way.{Step, Way, Rule, Turn, stop, to, way, rows, endRows, ending, passing, turning, joined, following, passing-equal, pushing, down, staying}
-use Rattle.ordered.specs.Reading.{Reading, rowsOf, keyAt, to-its-end, has, right-left-aside, right-child, next-by, next, left-left-aside, prev-by, prev, first, last, gap-by, gap}
-use Rattle.ordered.specs.Change.{Adding, Erasing, isThere, ends-at, adding-by, adding, erasing-by, erasing, pushed, left-over}
+use Rattle.ordered.specs.Way.{Step, Way, Rule, Turn, stop, to, way, rows, endRows, passing, turning, joined, following, passing-equal, pushing, down, staying}
+use Rattle.ordered.specs.Reading.{Reading, rowsOf, keyAt, to-its-end, has, right-left-aside, next-by, next, left-left-aside, prev-by, prev, first, last, gap-by, gap}
+use Rattle.ordered.specs.Change.{Adding, Erasing, ends-at, adding-by, adding, erasing-by, erasing}
 use Rattle.ordered.proofs.OneTree.{one-tree}
 use Rattle.ordered.proofs.Ways.{step}
 

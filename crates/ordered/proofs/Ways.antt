@@ -1,15 +1,13 @@
 -- Laws of every way, whatever its rule: how to prove one, how a way parts the listing of its tree, and what it passes in a proper tree.
-use Prim.Native.Nat.{ℕ, zero, suc, _+_, _*_, _/_, _^_, _≤_, _<_}
-use mathlib.Core.Path.{_≡_, refl, sym, ap, ap₂, _∙_}
+use Prim.Native.Nat.{ℕ, zero, suc, _+_, _*_, _/_, _^_}
+use mathlib.Core.Path.{_≡_, refl, sym, ap, _∙_}
 use mathlib.Core.Bool.{Bool, true, false, _&&_}
 use mathlib.Core.List.{List, [], _∷_, _++_, append-nil, append-assoc}
-use native.Mathlib.Nat.{zero-add}
-use native.Mathlib.Omega.{arith}
 use lib.Dec.{ltb, leb}
 use Rattle.ordered.specs.Such.{if_then_else_}
 use Rattle.ordered.specs.Word.{Side, left, right, bitOf, side}
 use Rattle.ordered.specs.Tree.{Tree, none, row, damaged, Entry, part, listing, intact}
-use Rattle.ordered.specs.Proper.{Fitting, Proper-row, Proper}
+use Rattle.ordered.specs.Proper.{Proper}
 use Rattle.ordered.specs.Way.{Step, Way, Rule, Turn, stop, to, way, ending, passing, turning, broken, isDamaged, following, passing-equal}
 use Rattle.ordered.specs.Grown.{linking, linked}
 use Rattle.ordered.proofs.Parts.{All, none-all, one-all}

@@ -1,7 +1,7 @@
 -- The trees that `add` and `del` leave: the rows of their ways linked again, with the entries that they take, and the new row or none where
 -- they end.
 use Prim.Native.Nat.{ℕ}
-use mathlib.Core.List.{List, [], _∷_, _++_}
+use mathlib.Core.List.{List, [], _∷_}
 use Rattle.ordered.specs.Such.{if_then_else_}
 use Rattle.ordered.specs.Word.{Side, left, right}
 use Rattle.ordered.specs.Tree.{Tree, none, row, Entry}
