@@ -7,4 +7,5 @@ pub mod Sought
 pub mod Answers
 pub mod Rows
 pub mod Unnumbered
+pub mod Moves
 pub mod Grown

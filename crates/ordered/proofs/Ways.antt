@@ -22,19 +22,26 @@ pub data Stops (f : Rule) : ℕ → Tree → Type 0 where
 abbrev pub step : ℕ → ℕ → Entry → Tree → Tree → Side → Step
 step m i e l r s = record { at = i; entry = e; turn = s; left-part = l; right-part = r; below = m }
 
--- induction along a way: what holds where it ends, and holds from a row on if it holds from the part on to which the rule turns there, holds
+-- induction along a way: what holds where it ends, and holds from a row on where it holds from the part on to which the rule turns, holds
 -- of the whole way
-pub along : (f : Rule) (P : ℕ → Tree → Way → Type 0)
-    → ((m : ℕ) (t : Tree) → Stops f m t → P m t (ending m t))
-    → ((m i : ℕ) (e : Entry) (l r : Tree) (s : Side) → f m e l r ≡ to s → P m (part s l r) (way f m (part s l r)) → P (suc m) (row i e l r) (passing (step m i e l r s) (way f m (part s l r))))
-    → (m : ℕ) (t : Tree) → P m t (way f m t)
+module _ (f : Rule) (P : ℕ → Tree → Way → Type 0) where
+  abbrev pub At-end : Type 0
+  At-end = (m : ℕ) (t : Tree) → Stops f m t → P m t (ending m t)
+
+  abbrev pub Onward : Type 0
+  Onward =
+      (m i : ℕ) (e : Entry) (l r : Tree) (s : Side) → f m e l r ≡ to s
+      → P m (part s l r) (way f m (part s l r)) → P (suc m) (row i e l r) (passing (step m i e l r s) (way f m (part s l r)))
+
+pub along : (f : Rule) (P : ℕ → Tree → Way → Type 0) → At-end f P → Onward f P → (m : ℕ) (t : Tree) → P m t (way f m t)
 unfolding way
 along f P ends goes zero t = ends zero t at-bottom
 along f P ends goes (suc m) none = ends (suc m) none at-none
 along f P ends goes (suc m) damaged = ends (suc m) damaged at-damage
 along f P ends goes (suc m) (row i e l r) = turned (f m e l r) refl (λ s. along f P ends goes m (part s l r))
   where
-    turned : (c : Turn) → f m e l r ≡ c → ((s : Side) → P m (part s l r) (way f m (part s l r))) → P (suc m) (row i e l r) (turning (way f m) m i e l r c)
+    turned : (c : Turn) → f m e l r ≡ c → ((s : Side) → P m (part s l r) (way f m (part s l r)))
+        → P (suc m) (row i e l r) (turning (way f m) m i e l r c)
     turned stop says rest = ends (suc m) (row i e l r) (at-stop says)
     turned (to s) says rest = goes m i e l r s says (rest s)
 
@@ -71,36 +78,42 @@ linked-listing [] t = sym (append-nil (listing t))
 linked-listing (s ∷ ss) t = around (s .turn) (linked-listing ss t)
   where
     around : (turn : Side) → listing (linked ss t) ≡ lower ss ++ (listing t ++ upper ss)
-        → listing (linking (s .at) (s .entry) turn (s .left-part) (s .right-part) (linked ss t)) ≡ (s .entry .key ∷ (left-aside turn (s .left-part) ++ lower ss)) ++ (listing t ++ (upper ss ++ right-aside turn (s .right-part)))
+        → listing (linking (s .at) (s .entry) turn (s .left-part) (s .right-part) (linked ss t))
+        ≡ (s .entry .key ∷ (left-aside turn (s .left-part) ++ lower ss)) ++ (listing t ++ (upper ss ++ right-aside turn (s .right-part)))
     around left rest = around-left (s .entry .key) (listing (s .right-part)) (lower ss) (listing t) (upper ss) rest
     around right rest = around-right (s .entry .key) (listing (s .left-part)) (lower ss) (listing t) (upper ss) rest
 
 -- the rows of a way, linked again with the part at which it ended, are the tree
 pub linked-again : (f : Rule) (m : ℕ) (t : Tree) → linked (way f m t .passed) (way f m t .end) ≡ t
 unfolding linked
-linked-again f = along f (λ m t w. linked (w .passed) (w .end) ≡ t) (λ m t ends. refl) (λ m i e l r s says rest. ap (linking i e s l r) rest ∙ own i e s l r)
+linked-again f =
+    along f (λ m t w. linked (w .passed) (w .end) ≡ t) (λ m t ends. refl)
+    (λ m i e l r s says rest. ap (linking i e s l r) rest ∙ own i e s l r)
   where
     own : (i : ℕ) (e : Entry) (s : Side) (l r : Tree) → linking i e s l r (part s l r) ≡ row i e l r
     own i e left l r = refl
     own i e right l r = refl
 
-pub parted : (f : Rule) (m : ℕ) (t : Tree) → let w : Way = way f m t in listing t ≡ lower (w .passed) ++ (listing (w .end) ++ upper (w .passed))
+pub parted : (f : Rule) (m : ℕ) (t : Tree)
+    → let w : Way = way f m t in listing t ≡ lower (w .passed) ++ (listing (w .end) ++ upper (w .passed))
 parted f m t =
     let w : Way = way f m t in
     sym (ap listing (linked-again f m t)) ∙ linked-listing (w .passed) (w .end)
 
 -- the parts on both sides of a row that is passed are proper
 abbrev pub Proper-step : Step → Type 0
-Proper-step s = (σ : Side) → Proper (s .below) (s .entry .key / 2 ^ suc (s .below) * 2 + bitOf σ) (suc (s .entry .key)) (part σ (s .left-part) (s .right-part))
+Proper-step s =
+    (σ : Side)
+    → Proper (s .below) (s .entry .key / 2 ^ suc (s .below) * 2 + bitOf σ) (suc (s .entry .key)) (part σ (s .left-part) (s .right-part))
 
 pub passed-proper : (f : Rule) (m : ℕ) (t : Tree) (path low : ℕ) → Proper m path low t → All Proper-step (way f m t .passed)
 unfolding Proper
-passed-proper f = along f (λ m t w. (path low : ℕ) → Proper m path low t → All Proper-step (w .passed)) (λ m t ends path low h. none-all) goes
+passed-proper f =
+    along f (λ m t w. (path low : ℕ) → Proper m path low t → All Proper-step (w .passed)) (λ m t ends path low h. none-all) goes
   where
-    goes : (m i : ℕ) (e : Entry) (l r : Tree) (s : Side) → f m e l r ≡ to s
-        → ((path low : ℕ) → Proper m path low (part s l r) → All Proper-step (way f m (part s l r) .passed))
-        → (path low : ℕ) → Proper (suc m) path low (row i e l r) → All Proper-step (step m i e l r s ∷ way f m (part s l r) .passed)
-    goes m i e l r s says rest path low h = one-all {x = step m i e l r s} (rw (h .key-fits .on-path) (h .parts)) (rest (path * 2 + bitOf s) (suc (e .key)) (h .parts s))
+    goes : Onward f (λ m t w. (path low : ℕ) → Proper m path low t → All Proper-step (w .passed))
+    goes m i e l r s says rest path low h =
+        one-all {x = step m i e l r s} (rw (h .key-fits .on-path) (h .parts)) (rest (path * 2 + bitOf s) (suc (e .key)) (h .parts s))
 
 pub and-true : (a b : Bool) → (a && b) ≡ true → (a ≡ true) × (b ≡ true)
 and-true true b h = (refl, h)
