@@ -168,9 +168,11 @@ module _ (m k path low : ℕ) (t : Tree) (fits : Fitting m path low k) (h : Prop
   rest-listing : Present k old-part → listing rest-part ≡ delete k (listing old-part)
   unfolding delete
   rest-listing is-there =
+      let above : All (Fitting bits (k / 2 ^ bits) (suc k)) (listing rest-part) =
+      keys-fit bits (k / 2 ^ bits) (suc k) rest-part (rest-proper is-there) in
       let absent : delete k (listing rest-part) ≡ listing rest-part =
       delete-absent k (listing rest-part)
-      (all-map (λ x f. ne-eqb k x (λ same. omega (arith, f .not-below))) (keys-fit bits (k / 2 ^ bits) (suc k) rest-part (rest-proper is-there))) in
+      (all-map (λ x f. ne-eqb k x (λ same. omega (arith, f .not-below))) above) in
       rw (
         ← pop-listing bits (k / 2 ^ bits) (open-there .end-low) old-part (open-there .end-proper) (there k is-there),
         eq-eqb k (entryAt old-part .key) (sym (own-key k is-there)),
@@ -183,7 +185,8 @@ module _ (m k path low : ℕ) (t : Tree) (fits : Fitting m path low k) (h : Prop
       meeting k (found .ends) (λ b. Proper m path low (if b then linked (the-way .passed) rest-part else t))
       (λ is-there.
       open-there .links rest-part
-      (proper-lower bits (k / 2 ^ bits) (suc k) (open-there .end-low) rest-part (omega (arith, open-there .end-from)) (rest-proper is-there)))
+      (proper-lower bits (k / 2 ^ bits) (suc k) (open-there .end-low) rest-part (omega (arith, open-there .end-from))
+      (rest-proper is-there)))
       (λ beyond. h)
 
   pub shrunk-listing : listing (shrunk m k t) ≡ delete k (listing t)

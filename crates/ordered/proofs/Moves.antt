@@ -28,7 +28,8 @@ proper-leaf : (m path low n : ℕ) (e : Entry) → Fitting m path low (e .key) �
 unfolding Proper
 proper-leaf zero path low n e fits = record { key-fits = fits; parts = elim [ left ↦ refl | right ↦ refl ] }
 proper-leaf (suc m) path low n e fits =
-    let none-there : (s : Side) → Proper m (path * 2 + bitOf s) (suc (e .key)) none = λ s. proper-none m (path * 2 + bitOf s) (suc (e .key)) in
+    let none-there : (s : Side) → Proper m (path * 2 + bitOf s) (suc (e .key)) none =
+    λ s. proper-none m (path * 2 + bitOf s) (suc (e .key)) in
     record { key-fits = fits; parts = elim [ left ↦ none-there left | right ↦ none-there right ] }
 
 -- a row with another part on side s

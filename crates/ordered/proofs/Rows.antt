@@ -69,7 +69,9 @@ pub next-rows : (m k : ℕ) (t : Tree) → rowsOf (next m k t .ways) ≤ m + 2
 unfolding next
 next-rows m k t =
     let w : Way = way (passing-equal k) m t in
-    omega (arith, way-rows (passing-equal k) m t, next-by-rows w (only-if (ltb k) (keyAt (w .end))) (last-such right-left-aside (w .passed)))
+    let further : rowsOf (next m k t .ways) ≤ rows w + 1 =
+    next-by-rows w (only-if (ltb k) (keyAt (w .end))) (last-such right-left-aside (w .passed)) in
+    omega (arith, way-rows (passing-equal k) m t)
 
 -- below the last row that a way passes there are as many bits left as where it ends
 abbrev Last-below : ℕ → ℕ → Perhaps Step → Type 0
@@ -82,11 +84,13 @@ last-below f =
     along f (λ m t w. Last-below m (w .bits) (last-such anything (w .passed))) (λ m t ends. refl)
     (λ m i e l r s says rest. above m i e l r s (way f m (part s l r) .bits) (last-such anything (way f m (part s l r) .passed)) rest)
   where
-    above : (m i : ℕ) (e : Entry) (l r : Tree) (s : Side) (bits : ℕ) (p : Perhaps Step) → Last-below m bits p → Last-below (suc m) bits (first-of p (such (step m i e l r s)))
+    above : (m i : ℕ) (e : Entry) (l r : Tree) (s : Side) (bits : ℕ) (p : Perhaps Step) → Last-below m bits p
+        → Last-below (suc m) bits (first-of p (such (step m i e l r s)))
     above m i e l r s bits no-such rest = sym rest
     above m i e l r s bits (such p) rest = rest
 
-prev-by-rows : (m : ℕ) (w : Way) (q : Perhaps ℕ) (p : Perhaps Step) → length (w .passed) + w .bits ≡ m → Last-below m (w .bits) p → rowsOf (prev-by w q p .ways) ≤ m + 2
+prev-by-rows : (m : ℕ) (w : Way) (q : Perhaps ℕ) (p : Perhaps Step) → length (w .passed) + w .bits ≡ m → Last-below m (w .bits) p
+    → rowsOf (prev-by w q p .ways) ≤ m + 2
 unfolding rowsOf rows
 prev-by-rows m w (such x) p sum below = omega (arith, one-end (w .end))
 prev-by-rows m w no-such no-such sum below = omega (arith, one-end (w .end))
@@ -95,7 +99,8 @@ prev-by-rows m w no-such (such p) sum below = either (left-left-aside p)
     d : Way
     d = way (down right) (p .below) (p .left-part)
 
-    either : (b : Bool) → rowsOf ((if b then to-its-end (w ∷ []) d else record { ways = w ∷ []; answer = such (p .entry .key) }) .ways) ≤ m + 2
+    either : (b : Bool)
+        → rowsOf ((if b then to-its-end (w ∷ []) d else record { ways = w ∷ []; answer = such (p .entry .key) }) .ways) ≤ m + 2
     either true = omega (arith, one-end (w .end), way-rows (down right) (p .below) (p .left-part))
     either false = omega (arith, one-end (w .end))
 
@@ -104,7 +109,8 @@ unfolding prev
 prev-rows m k t =
     let w : Way = way (following k) m t in
     rw (same-last (w .passed) (passed-pass (following k) (λ x. ltb x k) k (following-seeks k) m t))
-    (prev-by-rows m w (only-if (λ x. ltb x k) (keyAt (w .end))) (last-such anything (w .passed)) (passed-bits (following k) m t) (last-below (following k) m t))
+    (prev-by-rows m w (only-if (λ x. ltb x k) (keyAt (w .end))) (last-such anything (w .passed)) (passed-bits (following k) m t)
+    (last-below (following k) m t))
 
 rows-append : (vs ws : List Way) → rowsOf (vs ++ ws) ≡ rowsOf vs + rowsOf ws
 unfolding rowsOf
@@ -121,20 +127,20 @@ gap-rows m k t = either (has m k t .answer)
 
 pub adding-rows : (m k : ℕ) (t : Tree) → rows (adding m k t .rows-read) ≤ m + 1
 unfolding adding
-adding-rows m k t =
-    let w : Way = way (following k) m t in
-    either (ends-at k w)
+adding-rows m k t = either (ends-at k (way (following k) m t))
   where
-    either : (b : Bool) → let w : Way = way (following k) m t in let push : Way = way pushing (w .bits) (w .end) in rows (adding-by k w push (joined w push) b .rows-read) ≤ m + 1
+    either : (b : Bool)
+        → let w : Way = way (following k) m t in let push : Way = way pushing (w .bits) (w .end) in
+        rows (adding-by k w push (joined w push) b .rows-read) ≤ m + 1
     either true = way-rows (following k) m t
     either false = joined-rows (following k) pushing m t
 
 pub erasing-rows : (m k : ℕ) (t : Tree) → rows (erasing m k t .rows-read) ≤ m + 1
 unfolding erasing
-erasing-rows m k t =
-    let w : Way = way (following k) m t in
-    either (ends-at k w)
+erasing-rows m k t = either (ends-at k (way (following k) m t))
   where
-    either : (b : Bool) → let w : Way = way (following k) m t in let stretch : Way = way (down left) (w .bits) (w .end) in rows (erasing-by w stretch (joined w stretch) b .rows-read) ≤ m + 1
+    either : (b : Bool)
+        → let w : Way = way (following k) m t in let stretch : Way = way (down left) (w .bits) (w .end) in
+        rows (erasing-by w stretch (joined w stretch) b .rows-read) ≤ m + 1
     either true = joined-rows (following k) (down left) m t
     either false = way-rows (following k) m t

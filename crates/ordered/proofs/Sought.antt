@@ -66,7 +66,8 @@ module _ (f : Rule) (test : ℕ → Bool) (k : ℕ) (seeks : Seeks f test k) (be
           let on-side : k / 2 ^ m ≡ path * 2 + bitOf s = to-part m k path s on (turn .1) in
           let onward : Sought test k (way f m (part s l r)) = rest (path * 2 + bitOf s) (suc (e .key)) on-side (h .parts s) in
           record {
-            left-passes = one-all (turn .0) (all-append (lefts-pass m path (suc (e .key)) s l on-side (h .parts left)) (onward .left-passes));
+            left-passes =
+                one-all (turn .0) (all-append (lefts-pass m path (suc (e .key)) s l on-side (h .parts left)) (onward .left-passes));
             right-above = all-append (onward .right-above) (rights-above m path (suc (e .key)) s r on-side (h .parts right));
             ends = onward .ends;
           }

@@ -1,5 +1,5 @@
--- Ways do not see row numbers: every call reads as many rows of a tree, and finds the same, as of the tree without its row numbers, and so
--- as of the PreTree of the words that it lists.
+-- Ways do not see row numbers: every call reads as many rows of a tree, and finds the same, as of the tree without its row numbers, and
+-- so as of the PreTree of the words that it lists.
 use Prim.Native.Nat.{ℕ, zero, suc, _+_}
 use mathlib.Core.Path.{_≡_, refl, ap, ap₂}
 use mathlib.Core.Bool.{Bool, true, false, _&&_}
@@ -111,12 +111,14 @@ abbrev bare-perhaps : Perhaps Step → Perhaps Step
 bare-perhaps no-such = no-such
 bare-perhaps (such s) = such (bare-step s)
 
-found-bare : (p : Step → Bool) → ((s : Step) → p (bare-step s) ≡ p s) → (ss : List Step) → last-such p (bare-steps ss) ≡ bare-perhaps (last-such p ss)
+found-bare : (p : Step → Bool) → ((s : Step) → p (bare-step s) ≡ p s)
+    → (ss : List Step) → last-such p (bare-steps ss) ≡ bare-perhaps (last-such p ss)
 unfolding last-such
 found-bare p same [] = refl
 found-bare p same (s ∷ ss) = rw (found-bare p same ss, same s) (either (last-such p ss) (p s))
   where
-    either : (q : Perhaps Step) (b : Bool) → first-of (bare-perhaps q) (if b then such (bare-step s) else no-such) ≡ bare-perhaps (first-of q (if b then such s else no-such))
+    either : (q : Perhaps Step) (b : Bool)
+        → first-of (bare-perhaps q) (if b then such (bare-step s) else no-such) ≡ bare-perhaps (first-of q (if b then such s else no-such))
     either no-such true = refl
     either no-such false = refl
     either (such u) b = refl
@@ -139,7 +141,8 @@ next-by-bare : (w : Way) (q : Perhaps ℕ) (p : Perhaps Step) → next-by (bare 
 unfolding unnumbered
 next-by-bare w (such x) p = refl
 next-by-bare w no-such no-such = refl
-next-by-bare w no-such (such s) = rw (way-bare staying staying-blind (s .below) (s .right-part), key-bare (way staying (s .below) (s .right-part) .end))
+next-by-bare w no-such (such s) =
+    rw (way-bare staying staying-blind (s .below) (s .right-part), key-bare (way staying (s .below) (s .right-part) .end))
 
 next-bare : (m k : ℕ) (t : Tree) → next m k (unnumbered t) ≡ bare-reading (next m k t)
 unfolding next
@@ -156,12 +159,18 @@ prev-by-bare : (w : Way) (q : Perhaps ℕ) (p : Perhaps Step) → prev-by (bare 
 prev-by-bare w (such x) p = refl
 prev-by-bare w no-such no-such = refl
 prev-by-bare w no-such (such p) =
-    rw (exists-bare (p .left-part), way-bare (down right) (down-blind right) (p .below) (p .left-part), key-bare (way (down right) (p .below) (p .left-part) .end)) (either (left-left-aside p))
+    rw (exists-bare (p .left-part), way-bare (down right) (down-blind right) (p .below) (p .left-part), key-bare (d .end))
+    (either (left-left-aside p))
   where
     d : Way
     d = way (down right) (p .below) (p .left-part)
 
-    either : (b : Bool) → (if b then record { ways = bare w ∷ bare d ∷ []; answer = keyAt (d .end) } else record { ways = bare w ∷ []; answer = such (p .entry .key) }) ≡ bare-reading (if b then to-its-end (w ∷ []) d else record { ways = w ∷ []; answer = such (p .entry .key) })
+    alone : Way → Reading
+    alone v = record { ways = v ∷ []; answer = such (p .entry .key) }
+
+    either : (b : Bool)
+        → (if b then record { ways = bare w ∷ bare d ∷ []; answer = keyAt (d .end) } else alone (bare w))
+        ≡ bare-reading (if b then to-its-end (w ∷ []) d else alone w)
     either true = refl
     either false = refl
 
@@ -169,14 +178,20 @@ prev-bare : (m k : ℕ) (t : Tree) → prev m k (unnumbered t) ≡ bare-reading 
 unfolding prev
 prev-bare m k t =
     let w : Way = way (following k) m t in
-    rw (way-bare (following k) (following-blind k) m t, key-bare (w .end), found-bare (λ s. ltb (s .entry .key) k) (λ s. refl) (w .passed))
+    rw (
+      way-bare (following k) (following-blind k) m t,
+      key-bare (w .end),
+      found-bare (λ s. ltb (s .entry .key) k) (λ s. refl) (w .passed),
+    )
     (prev-by-bare w (only-if (λ x. ltb x k) (keyAt (w .end))) (last-such (λ s. ltb (s .entry .key) k) (w .passed)))
 
 gap-bare : (m k : ℕ) (t : Tree) → gap m k (unnumbered t) ≡ bare-reading (gap m k t)
 unfolding gap
 gap-bare m k t = rw (has-bare m k t, prev-bare m k t, next-bare m k t) (either (has m k t .answer))
   where
-    either : (q : Perhaps ℕ) → gap-by k (bare-reading (prev m k t)) (bare-reading (next m k t)) q (bare-ways (has m k t .ways)) ≡ bare-reading (gap-by k (prev m k t) (next m k t) q (has m k t .ways))
+    either : (q : Perhaps ℕ)
+        → gap-by k (bare-reading (prev m k t)) (bare-reading (next m k t)) q (bare-ways (has m k t .ways))
+        ≡ bare-reading (gap-by k (prev m k t) (next m k t) q (has m k t .ways))
     either (such x) = refl
     either no-such = rw (bare-append (prev m k t .ways) (next m k t .ways))
 
@@ -224,7 +239,8 @@ pub record Alike-adding (a b : Adding) : Type 0 where
   pub same-rows : rows (a .rows-read) ≡ rows (b .rows-read)
   pub same-presence : a .present ≡ b .present
 
-adding-by-alike : (k : ℕ) (w push : Way) (b : Bool) → Alike-adding (adding-by k (bare w) (bare push) (joined (bare w) (bare push)) b) (adding-by k w push (joined w push) b)
+adding-by-alike : (k : ℕ) (w push : Way) (b : Bool)
+    → Alike-adding (adding-by k (bare w) (bare push) (joined (bare w) (bare push)) b) (adding-by k w push (joined w push) b)
 adding-by-alike k w push true = record { same-rows = rows-bare w; same-presence = refl }
 adding-by-alike k w push false = record { same-rows = joined-rows-bare w push; same-presence = refl }
 
@@ -239,7 +255,8 @@ pub record Alike-erasing (a b : Erasing) : Type 0 where
   pub same-rows : rows (a .rows-read) ≡ rows (b .rows-read)
   pub same-presence : a .present ≡ b .present
 
-erasing-by-alike : (w stretch : Way) (b : Bool) → Alike-erasing (erasing-by (bare w) (bare stretch) (joined (bare w) (bare stretch)) b) (erasing-by w stretch (joined w stretch) b)
+erasing-by-alike : (w stretch : Way) (b : Bool)
+    → Alike-erasing (erasing-by (bare w) (bare stretch) (joined (bare w) (bare stretch)) b) (erasing-by w stretch (joined w stretch) b)
 erasing-by-alike w stretch true = record { same-rows = joined-rows-bare w stretch; same-presence = refl }
 erasing-by-alike w stretch false = record { same-rows = rows-bare w; same-presence = refl }
 

@@ -120,7 +120,7 @@ and-true true b h = (refl, h)
 and-true false b h = (h, cc)
 
 -- a tree without damage breaks no way
-intact-part : (s : Side) (l r : Tree) → (intact l && intact r) ≡ true → intact (part s l r) ≡ true
+pub intact-part : (s : Side) (l r : Tree) → (intact l && intact r) ≡ true → intact (part s l r) ≡ true
 intact-part left l r h = and-true (intact l) (intact r) h .0
 intact-part right l r h = and-true (intact l) (intact r) h .1
 
@@ -167,10 +167,3 @@ following-seeks k m e l r = refl
 pub passing-equal-seeks : (k : ℕ) → Seeks (passing-equal k) (λ x. leb x k) k
 unfolding passing-equal
 passing-equal-seeks k m e l r = refl
-
--- what a way ends at is without damage where its tree is
-pub end-intact : (f : Rule) (m : ℕ) (t : Tree) → intact t ≡ true → intact (way f m t .end) ≡ true
-unfolding intact
-end-intact f =
-    along f (λ m t w. intact t ≡ true → intact (w .end) ≡ true) (λ m t ends h. h)
-    (λ m i e l r s says rest h. rest (intact-part s l r h))

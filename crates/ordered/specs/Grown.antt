@@ -1,5 +1,5 @@
--- The trees that `add` and `del` leave: the rows of their ways linked again, with the entries that they take, and the new row or none where
--- they end.
+-- The trees that `add` and `del` leave: the rows of their ways linked again, with the entries that they take, and the new row or none
+-- where they end.
 use Prim.Native.Nat.{ℕ}
 use mathlib.Core.List.{List, [], _∷_}
 use Rattle.ordered.specs.Such.{if_then_else_}

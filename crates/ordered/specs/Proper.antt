@@ -15,7 +15,7 @@ pub record Proper-row (m path low key : ℕ) (Part : Side → Type 0) : Type 0 w
   pub parts : (s : Side) → Part s
 
 -- "no row is deeper than W": with no bit left both parts are none. Otherwise the path of a part is that of the row with one bit more, and
--- the least key that it may have is the next after the row's. The whole tree of a table of width W is this with W bits left, path 0, low 0.
+-- the least key that it may have is the next after the row's. The whole tree of a table is proper with W bits left, path 0 and low 0.
 unfoldable pub Proper : (m path low : ℕ) → Tree → Type 0
 Proper zero path low none = Unit {0}
 Proper zero path low (row i e l r) = Proper-row zero path low (e .key) (λ s. part s l r ≡ none)
