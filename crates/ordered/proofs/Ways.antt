@@ -94,6 +94,7 @@ linked-again f =
     own i e left l r = refl
     own i e right l r = refl
 
+-- so every way parts the listing of its tree in three
 pub parted : (f : Rule) (m : ℕ) (t : Tree)
     → let w : Way = way f m t in listing t ≡ lower (w .passed) ++ (listing (w .end) ++ upper (w .passed))
 parted f m t =
