@@ -77,6 +77,9 @@ import sys
 
 import pretree
 
+# What seed 1 prints, so that a change here is not made unseen.
+SEED_1 = {100: 3530065805, 5000: 813326723}
+
 PRIME = 4294967311
 WIDTHS = [1, 2, 3, 4, 5, 6, 7, 8, 32]
 SINGLE = [("has", pretree.has), ("next", pretree.next_), ("prev", pretree.prev),
