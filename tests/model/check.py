@@ -208,7 +208,18 @@ BY_HAND = [
 ]
 
 
+def largest_capacity():
+    # "at most 65,535. Words past the last whole row, or past that limit, are never changed."
+    table = [5] * (3 * 65537)
+    same("by hand", "new", ask(table, (0, 0), "new", 32), "0 - 0 0")
+    same("by hand", "past the limit", table, [0] * (3 * 65535) + [5] * 6)
+    same("by hand", "count of 65,536", ask(table, (32, 65536), "first"), "2 - 0 0")
+    same("by hand", "count of 65,535", ask(table, (32, 65535), "add", 0), "7 - 1 0")
+    same("by hand", "full", ask(table, (32, 65535), "add", 1), "5 - 0 0")
+
+
 def by_hand():
+    largest_capacity()
     for w, count, table, questions in BY_HAND:
         for question, wanted in questions.items():
             call, *k = question.split()
@@ -324,7 +335,7 @@ def sound_by_the_tree(table, header):
 
 
 def add_and_del_on_sound(table, header, k):
-    """The rows in use, and the row that `del` frees, are the dictionary's; no word past them changes."""
+    """The rows in use, and the row that `del` frees, are the dictionary's; the rest stays."""
     for call in ("add", "del"):
         copy = list(table)
         d = sound_by_the_tree(table, header)
