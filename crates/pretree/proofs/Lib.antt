@@ -3,6 +3,7 @@ pub mod Checks
 pub mod Unfolding
 pub mod Walking
 pub mod Seeking
+pub mod Falling
 pub mod Ended
 pub mod Found
 pub mod SoundTest

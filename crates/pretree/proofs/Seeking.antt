@@ -12,7 +12,7 @@ use Rattle.ordered.specs.Way.{following, passing-equal, to, stop}
 use Rattle.pretree.specs.declared.walk.Turn.the-variants.{Stop}
 use Rattle.pretree.specs.Walk.{turnOf, toward, seeking, seekTurn}
 
-turn-toward : (s : Side) → turnOf (toward s) ≡ to s
+pub turn-toward : (s : Side) → turnOf (toward s) ≡ to s
 turn-toward left = refl
 turn-toward right = refl
 

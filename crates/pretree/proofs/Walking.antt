@@ -23,7 +23,7 @@ use Rattle.pretree.specs.declared.walk.Turn.the-variants.{Stop, Left, Ri
 use Rattle.pretree.specs.declared.walk.Walk.{Walk}
 use Rattle.pretree.specs.Table.{capacity, rowAt, link}
 use Rattle.pretree.specs.Unfold.{judged, linked, unfolded, shown}
-use Rattle.pretree.specs.Walk.{isOn, started, holds, ended, remembering, passed, turned, stageAt, met, turnOf, toward, treeAt, to-come, toCome, below, stepAt, remembered, Goes, Placed, Walking}
+use Rattle.pretree.specs.Walk.{isOn, started, holds, ended, remembering, passed, turned, stageAt, met, turnOf, toward, treeAt, to-come, toCome, below, stepAt, remembered, Goes, Placed, Walking, Begun, standing}
 use Rattle.pretree.proofs.Unfolding.{is-damaged, is-row, path-in-key, there}
 
 -- where a way ends at once
@@ -363,3 +363,63 @@ falls w r t on = rw on (by-row (holds w r))
         → still (if not b then ended w AtDamage (r .entry .key) else if eqb (w .bits) 0 then ended w AtRow (r .entry .key) else turned w r t) < w .bits + 1
     by-row false = omega arith
     by-row true = by-bits (eqb (w .bits) 0) refl
+
+-- a walk that passed no row is where it was
+record Unmoved (w v : Walk) : Type 0 where
+  no-more : v .bits ≤ w .bits
+  same : v .bits ≡ w .bits → (v .above ≡ w .above) × (v .path ≡ w .path)
+
+unmoved-by : (w : Walk) (r : Row) (t : Turn) → Unmoved w (met w r t)
+unfolding met turned
+unmoved-by w r t = by-row (holds w r)
+  where
+    one-less : (bits : ℕ) → bits ≡ w .bits → (w .bits ≡ 0 → ⊥) → pred bits ≡ w .bits → ⊥
+    one-less bits e some h = omega (arith, pos-of-ne-zero some)
+
+    by-link : (v : Walk) (bit l : ℕ) → v .bits ≡ w .bits → (w .bits ≡ 0 → ⊥) → Unmoved w (passed v (r .entry .key) bit l)
+    by-link v bit l e some =
+        record {
+          no-more = rw e (pred-le (w .bits));
+          same = λ h. absurd (one-less (v .bits) e some h);
+        }
+
+    by-turn-unmoved : (t : Turn) → (w .bits ≡ 0 → ⊥) → Unmoved w (turned w r t)
+    by-turn-unmoved Stop some = record { no-more = le-refl (w .bits); same = λ h. (refl, refl) }
+    by-turn-unmoved Right some = by-link w 1 (r .right) refl some
+    by-turn-unmoved Left some = go (eqb (r .right) 0)
+      where
+        go : (b : Bool) → Unmoved w (passed (if b then w else remembering w) (r .entry .key) 0 (r .left))
+        go true = by-link w 0 (r .left) refl some
+        go false = by-link (remembering w) 0 (r .left) refl some
+
+    by-bits : (b : Bool) → eqb (w .bits) 0 ≡ b → Unmoved w (if b then ended w AtRow (r .entry .key) else turned w r t)
+    by-bits true e = record { no-more = le-refl (w .bits); same = λ h. (refl, refl) }
+    by-bits false e = by-turn-unmoved t (eqb-false (w .bits) 0 e)
+
+    by-row : (b : Bool)
+        → Unmoved w (if not b then ended w AtDamage (r .entry .key) else if eqb (w .bits) 0 then ended w AtRow (r .entry .key) else turned w r t)
+    by-row false = record { no-more = le-refl (w .bits); same = λ h. (refl, refl) }
+    by-row true = by-bits (eqb (w .bits) 0) refl
+
+-- so along a whole walk: s is where it began
+pub unmoved : (s w : Walk) (r : Row) (t : Turn) → w .bits ≤ s .bits
+    → (w .bits ≡ s .bits → (w .above ≡ s .above) × (w .path ≡ s .path))
+    → met w r t .bits ≡ s .bits → (met w r t .above ≡ s .above) × (met w r t .path ≡ s .path)
+unmoved s w r t within so-far e =
+    let u : Unmoved w (met w r t) = unmoved-by w r t in
+    let none-passed : w .bits ≡ s .bits = omega (arith, u .no-more) in
+    let now = u .same (e ∙ sym none-passed) in
+    let before = so-far none-passed in
+    (now .0 ∙ before .0, now .1 ∙ before .1)
+
+-- a walk that may begin in a table is on its way from the tree at which it stands
+pub begins-there : (table : List ℕ) (f : Rule) (w : Walk) → Begun table w
+    → Walking (rowAt table) f (w .bits) (w .count) (standing (rowAt table) w (w .stage)) w
+begins-there table f w b = begins (rowAt table) f (standing (rowAt table) w (w .stage)) w (b .fresh) (all (w .stage) (b .not-ended)) (b .placed)
+  where
+    all : (stage : Stage) → (stage ≡ AtRow → ⊥)
+        → to-come (rowAt table) f w stage ≡ way f (w .bits) (standing (rowAt table) w stage)
+    all On going = refl
+    all AtNone going = sym (at-none f (w .bits))
+    all AtRow going = absurd (going refl)
+    all AtDamage going = sym (at-damage f (w .bits))

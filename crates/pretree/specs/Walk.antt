@@ -7,7 +7,7 @@ use mathlib.Core.List.{List, [], _∷_}
 use lib.Dec.{ltb, leb, eqb}
 use lib.ListN.{length}
 use Rattle.ordered.specs.Such.{if_then_else_, Perhaps, no-such, such, first-of, last-such, anything}
-use Rattle.ordered.specs.Word.{Side, left, right, sideOf, bitOf, side}
+use Rattle.ordered.specs.Word.{Side, left, right, other, sideOf, bitOf, side}
 use Rattle.ordered.specs.Tree.{Tree, none, row, damaged}
 use Rattle.ordered.specs.Way.{Way, Step, Rule, way, ending, stop, to}
 use Rattle.ordered.specs.Way as Ways
@@ -19,7 +19,7 @@ use Rattle.pretree.specs.declared.walk.Stage.the-variants.{On, AtNone, A
 use Rattle.pretree.specs.declared.walk.Turn.{Turn}
 use Rattle.pretree.specs.declared.walk.Turn.the-variants.{Stop, Left, Right}
 use Rattle.pretree.specs.declared.walk.Walk.{Walk}
-use Rattle.pretree.specs.Table.{rowAt, link}
+use Rattle.pretree.specs.Table.{capacity, rowAt, link}
 use Rattle.pretree.specs.Unfold.{ends-there, linked, unfolded, shown}
 
 abbrev pub started : Header → Walk
@@ -77,6 +77,22 @@ ended w stage key =
 -- what a link leads to
 abbrev pub stageAt : ℕ → ℕ → Stage
 stageAt count i = if eqb i 0 then AtNone else if ltb i count then On else AtDamage
+
+abbrev pub startedAt : ℕ → ℕ → ℕ → ℕ → ℕ → Walk
+startedAt count i bits path low =
+    record {
+      count = count;
+      row = i;
+      bits = bits;
+      path = path;
+      low = low;
+      key = 0;
+      above = 0;
+      aside = 0;
+      beneath = 0;
+      any = false;
+      stage = stageAt count i;
+    }
 
 -- the walk that remembers the row at which it is
 abbrev pub remembering : Walk → Walk
@@ -212,3 +228,30 @@ seekTurn limit k key bits =
     if eqb bits 0 then Stop
     else if leb limit key then Stop
     else toward (side (pred bits) k)
+
+-- a walk that may begin in this table: what it wants stands there
+pub record Begun (table : List ℕ) (w : Walk) : Type 0 where
+  pub few-bits : w .bits ≤ 32
+  pub has-room : w .count ≤ capacity table
+  pub placed : Placed (rowAt table) w (w .stage)
+  pub fresh : w .any ≡ false
+  pub not-ended : w .stage ≡ AtRow → ⊥
+
+-- the tree at which a walk stands
+abbrev pub standing : (ℕ → Row) → Walk → Stage → Tree
+standing rows w On = treeAt rows w
+standing rows w AtNone = none
+standing rows w AtRow = treeAt rows w
+standing rows w AtDamage = damaged
+
+-- the walk w went on as r, all the way by the rule f from where it stood; if it passed no row it remembers what it did
+pub record Fell (rows : ℕ → Row) (f : Rule) (w r : Walk) : Type 0 where
+  pub walked : Walked rows f (w .bits) (w .count) (standing rows w (w .stage)) r
+  pub unmoved : r .bits ≡ w .bits → (r .above ≡ w .above) × (r .path ≡ w .path)
+
+-- the link on the side s first, else the other
+abbrev pub downTurn : Side → Row → Turn
+downTurn s r =
+    if not (eqb (link r s) 0) then toward s
+    else if not (eqb (link r (other s)) 0) then toward (other s)
+    else Stop

@@ -5,7 +5,7 @@ use crate::Header;
 use crate::Row;
 ghost use mathlib.Core.Path.{_≡_};
 ghost use Prim.Native.Nat.{_≤_, _<_, _^_};
-ghost use Rattle.pretree.specs.Walk.{started, isOn, holds, ended, remembering, passed, turned, stageAt, met, rowsRead};
+ghost use Rattle.pretree.specs.Walk.{started, startedAt, isOn, holds, ended, remembering, passed, turned, stageAt, met, rowsRead};
 
 // Where a walk is: at a row that it wants to read, or at its end, which is an empty link, a row or damage.
 pub enum Stage {
@@ -56,6 +56,26 @@ impl Walk {
             bits: h.width,
             path: 0,
             low: 0,
+            key: 0,
+            above: 0,
+            aside: 0,
+            beneath: 0,
+            any: false,
+            stage,
+        }
+    }
+
+    // A walk that begins at a link, with so many bits left there.
+    pub fn from(count: u32, link: u32, bits: u32, path: u64, low: u64) -> Walk
+        ensures { λ r. ⌜ r ≡ startedAt count link bits path low ⌝ }
+    {
+        let stage = stage_at(count, link);
+        Walk {
+            count,
+            row: link,
+            bits,
+            path,
+            low,
             key: 0,
             above: 0,
             aside: 0,
