@@ -6,5 +6,6 @@ pub mod Seeking
 pub mod Falling
 pub mod Ended
 pub mod Found
+pub mod Neighbours
 pub mod SoundTest
 pub mod Starred

@@ -423,3 +423,38 @@ begins-there table f w b = begins (rowAt table) f (standing (rowAt table) w (w .
     all AtNone going = sym (at-none f (w .bits))
     all AtRow going = absurd (going refl)
     all AtDamage going = sym (at-damage f (w .bits))
+
+-- a walk that stops at the row it meets has ended
+pub stop-ends : (w : Walk) (r : Row) → isOn (met w r Stop .stage) ≡ false
+unfolding met turned
+stop-ends w r = go (holds w r) (eqb (w .bits) 0)
+  where
+    go : (a b : Bool)
+        → isOn ((if not a then ended w AtDamage (r .entry .key) else if b then ended w AtRow (r .entry .key) else ended w AtRow (r .entry .key)) .stage) ≡ false
+    go false b = refl
+    go true true = refl
+    go true false = refl
+
+-- the root is a place where a walk may begin
+pub root-begun : (h : Header) (table : List ℕ) → h .width ≤ 32 → h .count ≤ capacity table → Begun table (started h)
+root-begun h table few room =
+    record {
+      few-bits = few;
+      has-room = room;
+      placed = begins-root h table (λ m e l r. stop) .placed;
+      fresh = refl;
+      not-ended = root-open (eqb (h .count) 0);
+    }
+  where
+    root-open : (b : Bool) → (if b then AtNone else On) ≡ AtRow → ⊥
+    root-open true e = let z : _≡_ {A = ℕ} 0 1 = cc in omega arith
+    root-open false e = let z : _≡_ {A = ℕ} 0 1 = cc in omega arith
+
+-- what stands there is what the table shows
+pub root-standing : (h : Header) (table : List ℕ) → standing (rowAt table) (started h) (started h .stage) ≡ shown h table
+unfolding shown
+root-standing h table = go (eqb (h .count) 0)
+  where
+    go : (b : Bool) → standing (rowAt table) (started h) (if b then AtNone else On) ≡ (if b then none else unfolded (rowAt table) (h .count) (h .width) 0 0 0)
+    go true = refl
+    go false = refl
