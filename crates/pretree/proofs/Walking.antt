@@ -1,9 +1,9 @@
 -- A walk goes the way of its rule: the row that it meets takes one row off the way that is still to come. Whatever the rule.
 use Prim.Native.Nat.{ℕ, zero, suc, pred, _+_, _*_, _-_, _/_, _%_, _^_, _≤_, _<_}
 use mathlib.Core.Path.{_≡_, refl, sym, ap, _∙_, subst}
-use mathlib.Core.Bool.{Bool, true, false, not, _&&_}
+use mathlib.Core.Bool.{Bool, true, false, not, _&&_, true≢false}
 use mathlib.Core.List.{List, [], _∷_}
-use native.Mathlib.Nat.{suc-ne-zero, le-trans, le-refl, pred-le, add-zero, sub-self, pos-of-ne-zero}
+use native.Mathlib.Nat.{suc-ne-zero, le-trans, le-refl, lt-irrefl, pred-le, add-zero, sub-self, pos-of-ne-zero}
 use native.Mathlib.Omega.{arith}
 use lib.Dec.{ltb, leb, eqb}
 use lib.ListN.{length}
@@ -23,7 +23,7 @@ use Rattle.pretree.specs.declared.walk.Turn.the-variants.{Stop, Left, Ri
 use Rattle.pretree.specs.declared.walk.Walk.{Walk}
 use Rattle.pretree.specs.Table.{capacity, rowAt, link}
 use Rattle.pretree.specs.Unfold.{judged, linked, unfolded, shown}
-use Rattle.pretree.specs.Walk.{isOn, started, holds, ended, remembering, passed, turned, stageAt, met, turnOf, toward, treeAt, to-come, toCome, below, stepAt, remembered, Goes, Placed, Walking, Begun, standing}
+use Rattle.pretree.specs.Walk.{isOn, started, holds, ended, remembering, passed, turned, stageAt, met, turnOf, toward, treeAt, to-come, toCome, below, stepAt, remembered, Goes, Placed, Memory, Walking, Begun, standing}
 use Rattle.pretree.proofs.Unfolding.{is-damaged, is-row, path-in-key, there}
 
 -- where a way ends at once
@@ -176,11 +176,12 @@ turned-comes rows f w m left r e = go (eqb (r .right) 0)
 record AfterRow (rows : ℕ → Row) (f : Rule) (width : ℕ) (whole : Way) (w v : Walk) : Type 0 where
   goes : Goes rows width whole v (toCome rows f v)
   placed : Placed rows v (v .stage)
+  memory : Memory width v
   within : v .bits ≤ width
   same-count : v .count ≡ w .count
 
 module _ (rows : ℕ → Row) (f : Rule) (width : ℕ) (whole : Way) (w : Walk) (used : w .row < w .count) (fits : w .bits ≤ width)
-    (g : Goes rows width whole w (way f (w .bits) (treeAt rows w))) where
+    (mem : Memory width w) (g : Goes rows width whole w (way f (w .bits) (treeAt rows w))) where
   abbrev here-row : Row
   here-row = rows (w .row)
 
@@ -203,7 +204,13 @@ module _ (rows : ℕ → Row) (f : Rule) (width : ℕ) (whole : Way) (w : Walk) 
 
   ends : (stage : Stage) → way f (w .bits) (treeAt rows w) ≡ toCome rows f (ended w stage key) → Placed rows (ended w stage key) stage → After (ended w stage key)
   ends stage e p =
-      record { goes = with-coming _ _ e (ended-goes rows width whole w stage key _ g); placed = p; within = fits; same-count = refl }
+      record {
+        goes = with-coming _ _ e (ended-goes rows width whole w stage key _ g);
+        placed = p;
+        memory = record { above-used = mem .above-used; aside-used = mem .aside-used };
+        within = fits;
+        same-count = refl;
+      }
 
   link-placed : (v : Walk) (bit l : ℕ) → Placed rows (passed v key bit l) (stageAt (v .count) l)
   link-placed v bit l = go (eqb l 0) (ltb l (v .count)) refl
@@ -213,21 +220,30 @@ module _ (rows : ℕ → Row) (f : Rule) (width : ℕ) (whole : Way) (w : Walk) 
       go false true h = ltb-true l (v .count) h
       go false false h = tt
 
-  passed-after : (v : Walk) (bit l : ℕ) → v .bits ≡ w .bits → v .count ≡ w .count
+  passed-after : (v : Walk) (bit l : ℕ) → v .bits ≡ w .bits → v .count ≡ w .count → v .row ≡ w .row
+      → (v .any ≡ true → (v .aside < w .count) × (v .beneath < width))
       → Goes rows width whole (passed v key bit l) (toCome rows f (passed v key bit l)) → After (passed v key bit l)
-  passed-after v bit l bits same-count h =
-      record { goes = h; placed = link-placed v bit l; within = rw bits (le-trans (pred-le (w .bits)) fits); same-count = same-count }
+  passed-after v bit l bits same-count same-row aside h =
+      record {
+        goes = h;
+        placed = link-placed v bit l;
+        memory = record { above-used = λ less. rw (same-row, same-count) used; aside-used = λ any. rw same-count (aside any) };
+        within = rw bits (le-trans (pred-le (w .bits)) fits);
+        same-count = same-count;
+      }
 
-  turned-after : (s : Side) → Goes rows width whole (turned w here-row (toward s)) (toCome rows f (turned w here-row (toward s)))
+  turned-after : (s : Side) → (w .bits ≡ 0 → ⊥) → Goes rows width whole (turned w here-row (toward s)) (toCome rows f (turned w here-row (toward s)))
       → After (turned w here-row (toward s))
   unfolding turned
-  turned-after right h = passed-after w 1 (here-row .right) refl refl h
-  turned-after left h = go (eqb (here-row .right) 0) h
+  turned-after right some h = passed-after w 1 (here-row .right) refl refl refl (mem .aside-used) h
+  turned-after left some h = go (eqb (here-row .right) 0) h
     where
       go : (b : Bool)
           → (let v : Walk = passed (if b then w else remembering w) key 0 (here-row .left) in Goes rows width whole v (toCome rows f v) → After v)
-      go true h = passed-after w 0 (here-row .left) refl refl h
-      go false h = passed-after (remembering w) 0 (here-row .left) refl refl h
+      go true h = passed-after w 0 (here-row .left) refl refl refl (mem .aside-used) h
+      go false h =
+          let fewer : pred (w .bits) < width = omega (arith, pos-of-ne-zero some) in
+          passed-after (remembering w) 0 (here-row .left) refl refl refl (λ any. (used, fewer)) h
 
   -- what the rule says at the row, with m bits left below it
   abbrev Says : ℕ → Turn → Type 0
@@ -238,7 +254,7 @@ module _ (rows : ℕ → Row) (f : Rule) (width : ℕ) (whole : Way) (w : Walk) 
       let path-is : key / 2 ^ suc m ≡ w .path = rw (← e) (path-in-key (w .count) (w .bits) (w .path) (w .low) (w .row) here-row (judged-is true h)) in
       let on : way f (w .bits) (treeAt rows w) ≡ passing (stepAt rows (w .count) m (w .row) s) (onward rows f (w .count) m (w .row) s)
       = rw (shows h, e) (row-passed rows f (w .count) m (w .row) s (turn-says s says)) in
-      turned-after s
+      turned-after s (λ none-left. suc-ne-zero m (sym e ∙ none-left))
       (with-coming _ _
       (ap (λ (path : ℕ). led rows f (w .count) m (path * 2 + bitOf s) (suc key) (link here-row s) (stageAt (w .count) (link here-row s))) path-is
       ∙ sym (turned-comes rows f w m s here-row e))
@@ -289,10 +305,10 @@ module _ (rows : ℕ → Row) (f : Rule) (width count : ℕ) (tree : Tree) (w : 
   keeps t says =
       let stage : w .stage ≡ On = is-on (w .stage) on in
       let a : AfterRow rows f width (way f width tree) w (met w (rows (w .row)) t)
-      = meets rows f width (way f width tree) w (subst (Placed rows w) stage (k .placed)) (k .fits)
+      = meets rows f width (way f width tree) w (subst (Placed rows w) stage (k .placed)) (k .fits) (k .memory)
       (subst (λ (s : Stage). Goes rows width (way f width tree) w (to-come rows f w s)) stage (k .goes)) t
       (λ m e. rw (k .same-count) (says m e)) in
-      record { goes = a .goes; placed = a .placed; fits = a .within; same-count = a .same-count ∙ k .same-count }
+      record { goes = a .goes; placed = a .placed; memory = a .memory; fits = a .within; same-count = a .same-count ∙ k .same-count }
 
 -- a walk that has not moved yet is on its way, if all of the way is still to come
 module _ (rows : ℕ → Row) (f : Rule) (tree : Tree) (w : Walk) (fresh : w .any ≡ false) (all : toCome rows f w ≡ way f (w .bits) tree)
@@ -309,6 +325,11 @@ module _ (rows : ℕ → Row) (f : Rule) (tree : Tree) (w : Walk) (fresh : w .an
               aside = rw (all, fresh) (first-of-no-such _);
             };
         placed = p;
+        memory =
+            record {
+              above-used = λ less. absurd (lt-irrefl (w .bits) less);
+              aside-used = λ any. absurd (true≢false (sym any ∙ fresh));
+            };
         fits = le-refl (w .bits);
         same-count = refl;
       }

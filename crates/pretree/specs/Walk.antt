@@ -200,10 +200,16 @@ Placed rows w AtNone = Unit {0}
 Placed rows w AtRow = (w .row < w .count) × (holds w (rows (w .row)) ≡ true) × (w .key ≡ rows (w .row) .entry .key)
 Placed rows w AtDamage = Unit {0}
 
+-- the rows that it remembers are in use
+pub record Memory (width : ℕ) (w : Walk) : Type 0 where
+  pub above-used : w .bits < width → w .above < w .count
+  pub aside-used : w .any ≡ true → (w .aside < w .count) × (w .beneath < width)
+
 -- the walk w is on the way by the rule f from a tree with so many bits left
 pub record Walking (rows : ℕ → Row) (f : Rule) (width count : ℕ) (tree : Tree) (w : Walk) : Type 0 where
   pub goes : Goes rows width (way f width tree) w (toCome rows f w)
   pub placed : Placed rows w (w .stage)
+  pub memory : Memory width w
   pub fits : w .bits ≤ width
   pub same-count : w .count ≡ count
 
