@@ -1,8 +1,9 @@
 -- What a walk that has ended tells of its way: where the way ends, how many rows it has, and the rows that it remembers.
-use Prim.Native.Nat.{ℕ, _+_, _-_, _%_}
+use Prim.Native.Nat.{ℕ, _+_, _-_, _%_, _≤_}
 use mathlib.Core.Path.{_≡_, refl, sym, _∙_}
 use mathlib.Core.Bool.{true, false, true≢false}
 use native.Mathlib.Nat.{zero-add}
+use native.Mathlib.Omega.{arith}
 use lib.Dec.{ltb}
 use lib.ListN.{length}
 use borrow.Author.Tests.{lt-ltb}
@@ -19,16 +20,31 @@ use Rattle.pretree.specs.declared.walk.Walk.{Walk}
 use Rattle.pretree.specs.Walk.{isOn, rowsRead, endRead, treeAt, to-come, below, remembered, Goes, Placed, Walked}
 use Rattle.pretree.proofs.Unfolding.{is-row}
 
+-- the end of a walk is at most one row more
+pub one-more : (stage : Stage) → endRead stage ≤ 1
+one-more On = omega arith
+one-more AtNone = omega arith
+one-more AtRow = omega arith
+one-more AtDamage = omega arith
+
+-- so a walk has read at most one row more than the bits it began with
+pub few-rows : (w : Walk) (width : ℕ) → width ≤ 32 → rowsRead w width ≤ 33
+few-rows w width h = omega (arith, one-more (w .stage))
+
+-- the part at which a walk ended
+abbrev pub endsIn : (ℕ → Row) → Walk → Stage → Tree
+endsIn rows w On = none
+endsIn rows w AtNone = none
+endsIn rows w AtRow =
+    row (w .row) (record { key = w .key }) (below rows (w .count) (w .bits) (w .row) left) (below rows (w .count) (w .bits) (w .row) right)
+endsIn rows w AtDamage = damaged
+
 module _ (rows : ℕ → Row) (f : Rule) (width count : ℕ) (tree : Tree) (w : Walk) (k : Walked rows f width count tree w) where
   abbrev gone : Way
   gone = way f width tree
 
-  -- the part at which the walk ended
   abbrev pub endPart : Stage → Tree
-  endPart On = none
-  endPart AtNone = none
-  endPart AtRow = row (w .row) (record { key = w .key }) (below rows (w .count) (w .bits) (w .row) left) (below rows (w .count) (w .bits) (w .row) right)
-  endPart AtDamage = damaged
+  endPart = endsIn rows w
 
   -- where the way ends, with which bits left, its length, and the rows remembered
   pub record Gone (stage : Stage) : Type 0 where

@@ -6,7 +6,6 @@ use mathlib.Core.List.{List, [], _∷_}
 use native.Mathlib.Nat.{add-zero}
 use lib.Dec.{eqb}
 use Rattle.ordered.specs.Such.{if_then_else_, such, no-such, only-if}
-use Rattle.ordered.specs.Tree.{Tree}
 use Rattle.ordered.specs.Way.{broken, isDamaged}
 use Rattle.ordered.specs.Reading.{rowsOf, brokenIn, keyAt, has}
 use Rattle.pretree.specs.declared.Header.{Header}
@@ -21,14 +20,11 @@ use Rattle.pretree.specs.Reply.{wrong-header, too-wide, refused, answere
 use Rattle.pretree.specs.Find.{hasReply, saying, done}
 use Rattle.pretree.specs.Found.{found-by}
 use Rattle.pretree.specs.Walk.{rowsRead, seeking, Walked}
-use Rattle.pretree.proofs.Ended.{endPart, Gone, all-gone, rows-gone}
+use Rattle.pretree.proofs.Ended.{endsIn, all-gone, rows-gone}
 use Rattle.pretree.proofs.Seeking.{following-is}
 
 module _ (h : Header) (table : List ℕ) (k : ℕ) (w : Walk) (fine : wrong-header h table ≡ false) (small : too-wide h k ≡ false)
     (gone : Walked (rowAt table) (seeking k k) (h .width) (h .count) (shown h table) w) where
-  abbrev end-part : Stage → Tree
-  end-part = endPart (rowAt table) (seeking k k) (h .width) (h .count) (shown h table) w gone
-
   pub found-at : (stage : Stage) → w .stage ≡ stage → hasReply h table k ≡ found-by h k (w .key) (rowsRead w (h .width)) stage
   unfolding hasReply has brokenIn broken rowsOf
   found-at stage at =
@@ -42,8 +38,8 @@ module _ (h : Header) (table : List ℕ) (k : ℕ) (w : Walk) (fine : wrong-head
       by-key false = refl
 
       by-stage : (stage : Stage)
-          → (if isDamaged (end-part stage) || false then refused h Damage
-          else answered h (saying done (only-if (eqb k) (keyAt (end-part stage)))) (rowsRead w (h .width)))
+          → (if isDamaged (endsIn (rowAt table) w stage) || false then refused h Damage
+          else answered h (saying done (only-if (eqb k) (keyAt (endsIn (rowAt table) w stage)))) (rowsRead w (h .width)))
           ≡ found-by h k (w .key) (rowsRead w (h .width)) stage
       by-stage On = refl
       by-stage AtNone = refl

@@ -1,28 +1,30 @@
 -- The replies of the calls that answer a word, from the walks that went their ways.
 use Prim.Native.Nat.{ℕ, suc, _+_, _≤_, _<_}
-use mathlib.Core.Path.{_≡_, refl, sym, ap, _∙_}
-use mathlib.Core.Bool.{Bool, true, false, _||_}
+use mathlib.Core.Path.{_≡_, refl, sym, ap, ap₂, _∙_}
+use mathlib.Core.Bool.{Bool, true, false, _||_, or-false}
 use mathlib.Core.List.{List, [], _∷_}
 use native.Mathlib.Nat.{add-zero}
-use Rattle.ordered.specs.Such.{if_then_else_}
-use Rattle.ordered.specs.Tree.{Tree}
-use Rattle.ordered.specs.Way.{Rule, way, broken, isDamaged, staying, down}
-use Rattle.ordered.specs.Word.{right}
-use Rattle.ordered.specs.Reading.{rowsOf, brokenIn, keyAt, to-its-end, first, last}
+use lib.Dec.{ltb}
+use Rattle.ordered.specs.Such.{if_then_else_, Perhaps, such, no-such, only-if}
+use Rattle.ordered.specs.Tree.{Tree, none}
+use Rattle.ordered.specs.Way.{Way, Step, Rule, way, rows, broken, isDamaged, ending, staying, down}
+use Rattle.ordered.specs.Word.{Side, left, right}
+use Rattle.ordered.specs.Reading.{Reading, rowsOf, brokenIn, keyAt, to-its-end, right-child, next-by, first, last, next}
 use Rattle.pretree.specs.declared.Header.{Header}
-use Rattle.pretree.specs.declared.Answer.the-variants.{Word, Damage}
+use Rattle.pretree.specs.declared.Answer.the-variants.{Word, Damage, NoSuchWord}
 use Rattle.pretree.specs.declared.Reply.{Reply}
 use Rattle.pretree.specs.declared.walk.Stage.{Stage}
 use Rattle.pretree.specs.declared.walk.Stage.the-variants.{On, AtNone, AtRow, AtDamage}
 use Rattle.pretree.specs.declared.walk.Walk.{Walk}
 use Rattle.pretree.specs.Table.{rowAt}
 use Rattle.pretree.specs.Unfold.{shown}
-use Rattle.pretree.specs.Reply.{wrong-header, refused, answered}
-use Rattle.pretree.specs.Find.{read-reply, saying, firstReply, lastReply}
-use Rattle.pretree.specs.Found.{word-by}
-use Rattle.pretree.specs.Walk.{started, rowsRead, Walked, Fell}
-use Rattle.pretree.proofs.Ended.{endPart, all-gone, rows-gone}
-use Rattle.pretree.proofs.Walking.{root-standing}
+use Rattle.pretree.specs.Reply.{wrong-header, too-wide, refused, answered}
+use Rattle.pretree.specs.Find.{read-reply, saying, firstReply, lastReply, nextReply}
+use Rattle.pretree.specs.Found.{word-by, then-by, aside-from, next-from}
+use Rattle.pretree.specs.Walk.{started, partStart, below, seeking, stepAt, remembered, rowsRead, Walked, Fell}
+use Rattle.pretree.proofs.Ended.{endsIn, all-gone, rows-gone}
+use Rattle.pretree.proofs.Seeking.{passing-equal-is}
+use Rattle.pretree.proofs.Walking.{root-standing, part-standing}
 
 -- a call whose answer is where its one way ends
 module _ (h : Header) (table : List ℕ) (fine : wrong-header h table ≡ false) (f : Rule) (w : Walk)
@@ -32,7 +34,7 @@ module _ (h : Header) (table : List ℕ) (fine : wrong-header h table ≡ false)
   word-at = rw (fine, rows-gone _ _ _ _ _ w gone, add-zero, all-gone _ _ _ _ _ w gone .end) (by-stage (w .stage))
     where
       by-stage : (stage : Stage)
-          → (let t : Tree = endPart _ _ _ _ _ w gone stage in
+          → (let t : Tree = endsIn (rowAt table) w stage in
           if isDamaged t || false then refused h Damage else answered h (saying Word (keyAt t)) (rowsRead w (h .width)))
           ≡ word-by h (w .key) (rowsRead w (h .width)) stage
       by-stage On = refl
@@ -53,3 +55,100 @@ module _ (h : Header) (table : List ℕ) (fine : wrong-header h table ≡ false)
   pub last-at : Fell (rowAt table) (down right) (started h) w → lastReply h table ≡ word-by h (w .key) (rowsRead w (h .width)) (w .stage)
   unfolding lastReply last
   last-at fell = word-at h table fine (down right) w (from-root h table (down right) w fell)
+
+-- the word at which a second way ends, from the part of row i on a side, after n rows
+module _ (h : Header) (table : List ℕ) (n m i : ℕ) (s : Side) (f : Rule) (w : Walk)
+    (fell : Fell (rowAt table) f (partStart (h .count) (rowAt table i) s m) w) where
+  gone-on : Walked (rowAt table) f m (h .count) (below (rowAt table) (h .count) (suc m) i s) w
+  gone-on = rw (part-standing table (h .count) m i s) at (fell .walked)
+
+  pub part-fits : w .bits ≤ m
+  part-fits = gone-on .walking .fits
+
+  pub then-at : then-by h n (way f m (below (rowAt table) (h .count) (suc m) i s)) ≡ word-by h (w .key) (n + rowsRead w m) (w .stage)
+  unfolding broken
+  then-at = rw (rows-gone _ _ _ _ _ w gone-on, all-gone _ _ _ _ _ w gone-on .end) (by-stage (w .stage))
+    where
+      by-stage : (stage : Stage)
+          → (let t : Tree = endsIn (rowAt table) w stage in
+          if isDamaged t then refused h Damage else answered h (saying Word (keyAt t)) (n + rowsRead w m))
+          ≡ word-by h (w .key) (n + rowsRead w m) stage
+      by-stage On = refl
+      by-stage AtNone = refl
+      by-stage AtRow = refl
+      by-stage AtDamage = refl
+
+-- the reply of a reading, once the checks are passed
+abbrev reply-of : Header → Reading → Reply
+reply-of h r =
+    if brokenIn (r .ways) then refused h Damage
+    else answered h (saying Word (r .answer)) (rowsOf (r .ways))
+
+module _ (h : Header) (w : Way) (n : ℕ) (so-many : rows w ≡ n) where
+  -- damage on its first way is damage
+  broken-first : (vs : List Way) (a : Perhaps ℕ) → broken w ≡ true → reply-of h (record { ways = w ∷ vs; answer = a }) ≡ refused h Damage
+  unfolding brokenIn
+  broken-first vs a b = rw b
+
+  -- one way
+  alone : (a : Perhaps ℕ) → broken w ≡ false → reply-of h (record { ways = w ∷ []; answer = a }) ≡ answered h (saying Word a) n
+  unfolding brokenIn rowsOf
+  alone a b = rw (b, so-many, add-zero)
+
+  -- a second one, whose end is the answer
+  and-then : (v : Way) → broken w ≡ false → reply-of h (to-its-end (w ∷ []) v) ≡ then-by h n v
+  unfolding brokenIn rowsOf
+  and-then v b = rw (b, or-false, so-many, add-zero)
+
+module _ (h : Header) (table : List ℕ) (k : ℕ) (w : Walk) (fine : wrong-header h table ≡ false) (small : too-wide h k ≡ false)
+    (gone : Walked (rowAt table) (seeking (suc k) k) (h .width) (h .count) (shown h table) w) where
+  abbrev n : ℕ
+  n = rowsRead w (h .width)
+
+  abbrev way-gone : Way
+  way-gone = way (seeking (suc k) k) (h .width) (shown h table)
+
+  abbrev part-at : Stage → Tree
+  part-at = endsIn (rowAt table) w
+
+  -- the right child of the row that is remembered, if any is
+  aside-at : (any : Bool) → broken way-gone ≡ false
+      → reply-of h (to-its-end (way-gone ∷ []) (right-child (remembered (rowAt table) (h .count) any (w .beneath) (w .aside) left)))
+      ≡ aside-from h (rowAt table) n any (w .beneath) (w .aside)
+  unfolding stepAt broken rows
+  aside-at true whole = and-then h way-gone n (rows-gone _ _ _ _ _ w gone) _ whole
+  aside-at false whole = and-then h way-gone n (rows-gone _ _ _ _ _ w gone) _ whole ∙ nothing
+    where
+      nothing : then-by h n (ending 0 none) ≡ answered h NoSuchWord n
+      nothing = rw add-zero
+
+  -- a way that ends so is broken, or not
+  broken-is : (stage : Stage) → way-gone .end ≡ part-at stage → broken way-gone ≡ isDamaged (part-at stage)
+  unfolding broken
+  broken-is stage e = rw e
+
+  by-stage : (stage : Stage) → way-gone .end ≡ part-at stage
+      → reply-of h (next-by way-gone (only-if (ltb k) (keyAt (part-at stage))) (remembered (rowAt table) (h .count) (w .any) (w .beneath) (w .aside) left))
+      ≡ next-from h (rowAt table) k stage (w .key) n (w .any) (w .beneath) (w .aside)
+  by-stage On e = aside-at (w .any) (broken-is On e)
+  by-stage AtNone e = aside-at (w .any) (broken-is AtNone e)
+  by-stage AtDamage e = broken-first h way-gone n (rows-gone _ _ _ _ _ w gone) (child ∷ []) (keyAt (child .end)) (broken-is AtDamage e)
+    where
+      child : Way
+      child = right-child (remembered (rowAt table) (h .count) (w .any) (w .beneath) (w .aside) left)
+  by-stage AtRow e = by-key (ltb k (w .key))
+    where
+      by-key : (b : Bool)
+          → reply-of h (next-by way-gone (if b then such (w .key) else no-such) (remembered (rowAt table) (h .count) (w .any) (w .beneath) (w .aside) left))
+          ≡ (if b then answered h (Word (w .key)) n else aside-from h (rowAt table) n (w .any) (w .beneath) (w .aside))
+      by-key true = alone h way-gone n (rows-gone _ _ _ _ _ w gone) (such (w .key)) (broken-is AtRow e)
+      by-key false = aside-at (w .any) (broken-is AtRow e)
+
+  pub next-at : nextReply h table k ≡ next-from h (rowAt table) k (w .stage) (w .key) n (w .any) (w .beneath) (w .aside)
+  unfolding nextReply next
+  next-at =
+      rw (fine, small, passing-equal-is k)
+      (ap₂ (λ (end : Tree) (p : Perhaps Step). reply-of h (next-by way-gone (only-if (ltb k) (keyAt end)) p)) (all-gone _ _ _ _ _ w gone .end)
+      (all-gone _ _ _ _ _ w gone .aside
+      ∙ ap (λ (c : ℕ). remembered (rowAt table) c (w .any) (w .beneath) (w .aside) left) (gone .walking .same-count))
+      ∙ by-stage (w .stage) (all-gone _ _ _ _ _ w gone .end))

@@ -23,7 +23,7 @@ use Rattle.pretree.specs.declared.walk.Turn.the-variants.{Stop, Left, Ri
 use Rattle.pretree.specs.declared.walk.Walk.{Walk}
 use Rattle.pretree.specs.Table.{capacity, rowAt, link}
 use Rattle.pretree.specs.Unfold.{judged, linked, unfolded, shown}
-use Rattle.pretree.specs.Walk.{isOn, started, holds, ended, remembering, passed, turned, stageAt, met, turnOf, toward, treeAt, to-come, toCome, below, stepAt, remembered, Goes, Placed, Memory, Walking, Begun, standing}
+use Rattle.pretree.specs.Walk.{isOn, started, startedAt, holds, ended, remembering, passed, turned, stageAt, met, turnOf, toward, treeAt, to-come, toCome, below, stepAt, remembered, Goes, Placed, Memory, Walking, Begun, standing, partStart}
 use Rattle.pretree.proofs.Unfolding.{is-damaged, is-row, path-in-key, there}
 
 -- where a way ends at once
@@ -479,3 +479,49 @@ root-standing h table = go (eqb (h .count) 0)
     go : (b : Bool) → standing (rowAt table) (started h) (if b then AtNone else On) ≡ (if b then none else unfolded (rowAt table) (h .count) (h .width) 0 0 0)
     go true = refl
     go false = refl
+
+-- what stands at a link is what it shows
+standing-at : (rows : ℕ → Row) (count m path low l : ℕ)
+    → standing rows (startedAt count l m path low) (stageAt count l) ≡ linked (unfolded rows count m path low) l
+standing-at rows count m path low zero = refl
+standing-at rows count m path low (suc l) =
+    ap (standing rows (startedAt count (suc l) m path low)) linked-stage ∙ go (ltb (suc l) count) refl
+  where
+    linked-stage : stageAt count (suc l) ≡ (if ltb (suc l) count then On else AtDamage)
+    linked-stage = rw (ne-eqb (suc l) 0 (suc-ne-zero l))
+
+    go : (b : Bool) → ltb (suc l) count ≡ b
+        → standing rows (startedAt count (suc l) m path low) (if b then On else AtDamage) ≡ unfolded rows count m path low (suc l)
+    go true h = refl
+    go false h = sym (is-damaged rows count m path low (suc l) (rw h))
+
+-- so is the part of a row on a side, and what stands there is what the row's link shows
+module _ (table : List ℕ) (count m i : ℕ) (s : Side) where
+  abbrev start : Walk
+  start = partStart count (rowAt table i) s m
+
+  pub part-begun : m ≤ 32 → count ≤ capacity table → Begun table start
+  part-begun few room =
+      record {
+        few-bits = few;
+        has-room = room;
+        placed = placed (eqb l 0) (ltb l count) refl;
+        fresh = refl;
+        not-ended = part-open (eqb l 0) (ltb l count);
+      }
+    where
+      l : ℕ
+      l = link (rowAt table i) s
+
+      placed : (b c : Bool) → ltb (link (rowAt table i) s) count ≡ c → Placed (rowAt table) start (if b then AtNone else if c then On else AtDamage)
+      placed true c h = tt
+      placed false true h = ltb-true _ count h
+      placed false false h = tt
+
+      part-open : (b c : Bool) → (if b then AtNone else if c then On else AtDamage) ≡ AtRow → ⊥
+      part-open true c e = let z : _≡_ {A = ℕ} 0 1 = cc in omega arith
+      part-open false true e = let z : _≡_ {A = ℕ} 0 1 = cc in omega arith
+      part-open false false e = let z : _≡_ {A = ℕ} 0 1 = cc in omega arith
+
+  pub part-standing : standing (rowAt table) start (start .stage) ≡ below (rowAt table) count (suc m) i s
+  part-standing = standing-at (rowAt table) count m _ _ (link (rowAt table i) s)

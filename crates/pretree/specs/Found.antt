@@ -1,13 +1,22 @@
 -- What the reading calls answer where their walks ended: the contracts of the small functions that turn a walk's end into a reply.
-use Prim.Native.Nat.{ℕ}
-use lib.Dec.{eqb}
+use Prim.Native.Nat.{ℕ, suc, _+_, _≤_, _<_}
+use mathlib.Core.Path.{_≡_}
+use mathlib.Core.Bool.{Bool, true, false}
+use mathlib.Core.List.{List}
+use lib.Dec.{ltb, eqb}
 use Rattle.ordered.specs.Such.{if_then_else_}
+use Rattle.ordered.specs.Word.{left, right}
+use Rattle.ordered.specs.Way.{Way, way, rows, broken, staying}
+use Rattle.ordered.specs.Reading.{keyAt}
 use Rattle.pretree.specs.declared.Header.{Header}
 use Rattle.pretree.specs.declared.Answer.the-variants.{Done, Word, Damage, NoSuchWord}
 use Rattle.pretree.specs.declared.Reply.{Reply}
+use Rattle.pretree.specs.declared.Row.{Row}
 use Rattle.pretree.specs.declared.walk.Stage.{Stage}
 use Rattle.pretree.specs.declared.walk.Stage.the-variants.{On, AtNone, AtRow, AtDamage}
-use Rattle.pretree.specs.Reply.{refused, answered}
+use Rattle.pretree.specs.Reply.{wrong-header, refused, answered}
+use Rattle.pretree.specs.Find.{saying}
+use Rattle.pretree.specs.Walk.{below}
 
 -- `has` of k, at a row with that key, after so many rows
 abbrev pub found-by : Header → ℕ → ℕ → ℕ → Stage → Reply
@@ -22,3 +31,26 @@ word-by h key n On = answered h NoSuchWord n
 word-by h key n AtNone = answered h NoSuchWord n
 word-by h key n AtRow = answered h (Word key) n
 word-by h key n AtDamage = refused h Damage
+
+-- what is known where a second way begins, after so many rows
+pub record Asked (h : Header) (table : List ℕ) (n : ℕ) : Type 0 where
+  pub fine : wrong-header h table ≡ false
+  pub few : n ≤ 33
+
+-- a second way, whose end is the answer, after n rows
+abbrev pub then-by : Header → ℕ → Way → Reply
+then-by h n w =
+    if broken w then refused h Damage
+    else answered h (saying Word (keyAt (w .end))) (n + rows w)
+
+-- the right child of the row i that the walk remembered, with m bits left below it
+abbrev pub aside-from : Header → (ℕ → Row) → ℕ → Bool → ℕ → ℕ → Reply
+aside-from h rows n false m i = answered h NoSuchWord n
+aside-from h rows n true m i = then-by h n (way staying m (below rows (h .count) (suc m) i right))
+
+-- `next` of k, at a row with that key, after n rows
+abbrev pub next-from : Header → (ℕ → Row) → ℕ → Stage → ℕ → ℕ → Bool → ℕ → ℕ → Reply
+next-from h rows k On key n any m i = aside-from h rows n any m i
+next-from h rows k AtNone key n any m i = aside-from h rows n any m i
+next-from h rows k AtRow key n any m i = if ltb k key then answered h (Word key) n else aside-from h rows n any m i
+next-from h rows k AtDamage key n any m i = refused h Damage

@@ -261,3 +261,7 @@ downTurn s r =
     if not (eqb (link r s) 0) then toward s
     else if not (eqb (link r (other s)) 0) then toward (other s)
     else Stop
+
+-- the walk that begins at the part of a row on a side, with m bits left there
+abbrev pub partStart : ℕ → Row → Side → ℕ → Walk
+partStart count r s m = startedAt count (link r s) m (r .entry .key / 2 ^ suc m * 2 + bitOf s) (suc (r .entry .key))
