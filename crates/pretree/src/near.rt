@@ -16,9 +16,9 @@ ghost use Prim.Native.Nat.{_≤_, _<_, _+_};
 ghost use Rattle.ordered.specs.Word.{sideOf};
 ghost use Rattle.ordered.specs.Way.{staying};
 ghost use Rattle.pretree.specs.Table.{rowAt};
-ghost use Rattle.pretree.specs.Find.{firstReply, lastReply, nextReply};
+ghost use Rattle.pretree.specs.Find.{firstReply, lastReply, nextReply, prevReply};
 ghost use Rattle.pretree.specs.Walk.{Begun, Fell, rowsRead, partStart};
-ghost use Rattle.pretree.specs.Found.{word-by, Asked, next-from, aside-from};
+ghost use Rattle.pretree.specs.Found.{word-by, Asked, next-from, aside-from, prev-from, above-from};
 
 // The one row at which a walk begins.
 fn stayed(table: &[u32], start: Walk) -> Walk
@@ -154,5 +154,71 @@ impl Header {
         let more = w.rows(bits);
         let stage = w.stage;
         self.word_at(stage, w.key, rows + more)
+    }
+
+    // "greatest word less than k"
+    pub fn prev(self, table: &[u32], word: u32) -> Reply
+        ensures { λ r. ⌜ r ≡ prevReply self (now (table .entry)) word ⌝ }
+    {
+        if self.is_wrong(table) {
+            return self.refused(Answer::WrongHeader);
+        }
+        if self.is_exceeded_by(word) {
+            return self.refused(Answer::WordTooWide);
+        }
+        let w = way_of(table, self, word, word as u64);
+        let rows = w.rows(self.width);
+        let stage = w.stage;
+        self.prev_at(table, word, stage, w.key, rows, w.bits, w.path, w.above)
+    }
+
+    // "Let p be its last row with key below k."
+    fn prev_at(
+        self,
+        table: &[u32],
+        word: u32,
+        stage: Stage,
+        key: u32,
+        rows: u32,
+        bits: u32,
+        path: u64,
+        above: u32,
+    ) -> Reply
+        requires { ⌜ Asked self (now table) rows ⌝ }
+        requires { ⌜ (bits < self .width → above < self .count) ⌝ }
+        ensures { λ r. ⌜ r ≡ prev-from self (rowAt (now (table .entry))) word stage key rows bits path above ⌝ }
+    {
+        match stage {
+            Stage::AtDamage => self.refused(Answer::Damage),
+            Stage::AtRow => {
+                if key < word {
+                    self.answered(Answer::Word(key), rows)
+                } else {
+                    self.above_at(table, rows, bits, path, above)
+                }
+            }
+            Stage::AtNone => self.above_at(table, rows, bits, path, above),
+            Stage::On => self.above_at(table, rows, bits, path, above),
+        }
+    }
+
+    // "No such row: none. If the way turned right at p and p has a left child, go down from that child [..] Otherwise p."
+    fn above_at(self, table: &[u32], rows: u32, bits: u32, path: u64, above: u32) -> Reply
+        requires { ⌜ Asked self (now table) rows ⌝ }
+        requires { ⌜ (bits < self .width → above < self .count) ⌝ }
+        ensures { λ r. ⌜ r ≡ above-from self (rowAt (now (table .entry))) rows bits path above ⌝ }
+    {
+        if self.width <= bits {
+            return self.answered(Answer::NoSuchWord, rows);
+        }
+        let row = row_at(table, above);
+        if path % 2 == 0 {
+            return self.answered(Answer::Word(row.entry.key), rows);
+        }
+        if row.left == 0 {
+            return self.answered(Answer::Word(row.entry.key), rows);
+        }
+        let w = fallen(table, part_of(self.count, row, 0, bits), 1);
+        self.word_on(rows, bits, w)
     }
 }
