@@ -112,7 +112,7 @@ prev-rows m k t =
     (prev-by-rows m w (only-if (λ x. ltb x k) (keyAt (w .end))) (last-such anything (w .passed)) (passed-bits (following k) m t)
     (last-below (following k) m t))
 
-rows-append : (vs ws : List Way) → rowsOf (vs ++ ws) ≡ rowsOf vs + rowsOf ws
+pub rows-append : (vs ws : List Way) → rowsOf (vs ++ ws) ≡ rowsOf vs + rowsOf ws
 unfolding rowsOf
 rows-append [] ws = sym (zero-add (rowsOf ws))
 rows-append (v ∷ vs) ws = omega (arith, rows-append vs ws)

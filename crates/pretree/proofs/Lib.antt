@@ -7,5 +7,6 @@ pub mod Falling
 pub mod Ended
 pub mod Found
 pub mod Neighbours
+pub mod Nearest
 pub mod SoundTest
 pub mod Starred

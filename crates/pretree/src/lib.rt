@@ -3,6 +3,7 @@
 
 mod fall;
 mod find;
+mod gap;
 mod near;
 mod seek;
 mod table;
