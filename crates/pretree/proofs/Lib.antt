@@ -1,3 +1,4 @@
 pub mod Tests
 pub mod SoundTest
 pub mod Starred
+pub mod Parts

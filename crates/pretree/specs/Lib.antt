@@ -8,5 +8,6 @@ pub mod Find
 pub mod Add
 pub mod Del
 pub mod Whole
+pub mod Part
 pub mod Walk
 pub mod Starred

@@ -3,6 +3,7 @@
 
 mod table;
 mod walk;
+mod whole;
 
 ghost use mathlib.Core.Path.{_≡_};
 ghost use Rattle.pretree.specs.Reply.{fresh};
