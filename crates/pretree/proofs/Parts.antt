@@ -3,7 +3,7 @@ use Prim.Native.Nat.{ℕ, zero, suc, pred, _+_, _*_, _-_, _/_, _^_, _≤_, _<_}
 use mathlib.Core.Path.{_≡_, refl, sym, ap, _∙_}
 use mathlib.Core.Bool.{Bool, true, false, _&&_, _||_, and-false}
 use mathlib.Core.List.{List, [], _∷_, _++_}
-use native.Mathlib.Nat.{sub-zero, zero-add, not-suc-le-zero, suc-ne-zero, add-zero, add-suc, suc-add, div-le-self}
+use native.Mathlib.Nat.{sub-zero, zero-add, lt-of-not-le, not-suc-le-zero, suc-ne-zero, add-zero, add-suc, suc-add, div-le-self}
 use native.Mathlib.Numerals.{add-one}
 use native.Mathlib.Omega.{arith}
 use lib.Dec.{ltb, leb, eqb}
@@ -19,11 +19,11 @@ use Rattle.pretree.specs.declared.Row.{Row}
 use Rattle.pretree.specs.declared.whole.Place.{Place}
 use Rattle.pretree.specs.declared.whole.Rest.{Rest}
 use Rattle.pretree.specs.declared.whole.Rest.the-variants.{Rows, Damaged}
-use Rattle.pretree.specs.Table.{capacity, rowAt}
+use Rattle.pretree.specs.Table.{capacity, rowAt, link}
 use Rattle.pretree.specs.Unfold.{ends-there, judged, linked, unfolded, shown}
 use Rattle.pretree.specs.Sound.{isSound}
 use Rattle.pretree.specs.Reply.{wrong-width, wrong-header}
-use Rattle.pretree.specs.Part.{root, below, holds, rowPart, linkPart, counted, Listable}
+use Rattle.pretree.specs.Part.{root, holds, rowPart, linkPart, sidePart, counted, Listable}
 
 -- two tests of the same fact agree
 same-leb : (a b c d : ℕ) → (a ≤ b → c ≤ d) → (c ≤ d → a ≤ b) → leb a b ≡ leb c d
@@ -31,7 +31,7 @@ same-leb a b c d there back = go (leb c d) refl
   where
     go : (t : Bool) → leb c d ≡ t → leb a b ≡ t
     go true h = le-leb a b (back (leb-true c d h))
-    go false h = lt-leb a b (let l : d < c = leb-false c d h in let no : a ≤ b → ⊥ = λ k. let m : c ≤ d = there k in omega arith in omega (arith, no))
+    go false h = lt-leb a b (lt-of-not-le (λ k. let over : d < c = leb-false c d h in let fits : c ≤ d = there k in omega arith))
 
 -- ---- what a part is made of
 
@@ -48,7 +48,13 @@ module _ (rows : ℕ → Row) (n : ℕ) where
   last-part (suc m) path low i e h = absurd (suc-ne-zero m e)
 
   -- otherwise its links lead to them
-  pub inner-part : (m path low i : ℕ) → (m ≡ 0 → ⊥) → judged n m path low i (rows i) ≡ true → unfolded rows n m path low i ≡ row i (record { key = rows i .entry .key }) (linked (unfolded rows n (pred m) (path * 2 + bitOf left) (suc (rows i .entry .key))) (rows i .left)) (linked (unfolded rows n (pred m) (path * 2 + bitOf right) (suc (rows i .entry .key))) (rows i .right))
+  pub inner-part :
+      (m path low i : ℕ)
+      → (m ≡ 0 → ⊥)
+      → judged n m path low i (rows i) ≡ true
+      → let key : ℕ = rows i .entry .key in
+      let below : Side → Tree = λ s. linked (unfolded rows n (pred m) (path * 2 + bitOf s) (suc key)) (link (rows i) s) in
+      unfolded rows n m path low i ≡ row i (record { key = key }) (below left) (below right)
   unfolding unfolded
   inner-part zero path low i e h = absurd (e refl)
   inner-part (suc m) path low i e h = rw h
@@ -59,18 +65,17 @@ both : (a b : Bool) → (a && b) ≡ true → (a ≡ true) × (b ≡ true)
 both true b h = (refl, h)
 both false b h = absurd (let z : _≡_ {A = ℕ} 0 1 = cc in omega arith)
 
-module _ (p : Place) (r : Row) where
-  -- the path is a front part of the key
-  pub path-small : (most : ℕ) → holds p r ≡ true → r .entry .key < most → p .path < most
-  path-small most h small =
-      let key : ℕ = r .entry .key in
-      let rest = both (leb (p .low) key) (eqb (key / 2 ^ p .bits) (p .path) && ends-there (p .bits) r) h .1 in
-      let bits : key / 2 ^ p .bits ≡ p .path = eqb-true _ _ (both (eqb (key / 2 ^ p .bits) (p .path)) (ends-there (p .bits) r) rest .0) in
-      omega (arith, div-le-self (r .entry .key) (2 ^ p .bits))
+-- the path to it is a front part of its key
+pub path-small : (p : Place) (r : Row) (most : ℕ) → holds p r ≡ true → r .entry .key < most → p .path < most
+path-small p r most h small =
+    let key : ℕ = r .entry .key in
+    let rest = both (leb (p .low) key) (eqb (key / 2 ^ p .bits) (p .path) && ends-there (p .bits) r) h .1 in
+    let bits : key / 2 ^ p .bits ≡ p .path = eqb-true _ _ (both (eqb (key / 2 ^ p .bits) (p .path)) (ends-there (p .bits) r) rest .0) in
+    omega (arith, div-le-self key (2 ^ p .bits))
 
 -- ---- what is left after the rows of a part
 
--- the rows of the left part first, and then those of the right part
+-- the rows of the right part are counted after those of the left part
 abbrev pub onward : Rest → (ℕ → Rest) → Rest
 onward (Rows more) f = f more
 onward Damaged f = Damaged
@@ -83,8 +88,8 @@ pub counted-damaged : (rest : ℕ) → counted damaged rest ≡ Damaged
 unfolding counted intact
 counted-damaged rest = refl
 
--- a row is one
-pub counted-spent : (i : ℕ) (e : Entry) (l r : Tree) → counted (row i e l r) 0 ≡ Damaged
+-- a row is met, so it wants that one may be
+counted-spent : (i : ℕ) (e : Entry) (l r : Tree) → counted (row i e l r) 0 ≡ Damaged
 unfolding counted intact size
 counted-spent i e l r = rw (lt-leb (suc (size l + size r)) 0 (omega arith), and-false)
 
@@ -107,7 +112,7 @@ abbrev pub spent : Rest → Bool
 spent (Rows more) = eqb more 0
 spent Damaged = false
 
-pub counted-all : (t : Tree) (n : ℕ) → spent (counted t n) ≡ (intact t && eqb (size t) n)
+counted-all : (t : Tree) (n : ℕ) → spent (counted t n) ≡ (intact t && eqb (size t) n)
 unfolding counted
 counted-all t n = go (intact t) (leb (size t) n) (eqb (size t) n) refl refl
   where
@@ -154,7 +159,7 @@ module _ (rows : ℕ → Row) (n : ℕ) (p : Place) (r : Row) (read : r ≡ rows
     pub last-row : p .bits ≡ 0 → rowPart rows n p ≡ row (p .row) (record { key = r .entry .key }) none none
     last-row e = rw read (last-part rows n (p .bits) (p .path) (p .low) (p .row) e judged-true)
 
-    pub inner-row : (p .bits ≡ 0 → ⊥) → rowPart rows n p ≡ row (p .row) (record { key = r .entry .key }) (linkPart rows n (below p (r .entry .key) left (r .left))) (linkPart rows n (below p (r .entry .key) right (r .right)))
+    pub inner-row : (p .bits ≡ 0 → ⊥) → rowPart rows n p ≡ row (p .row) (record { key = r .entry .key }) (sidePart rows n p r left) (sidePart rows n p r right)
     inner-row e = rw read (inner-part rows n (p .bits) (p .path) (p .low) (p .row) e judged-true)
 
 pub outside-row : (rows : ℕ → Row) (n : ℕ) (p : Place) → n ≤ p .row → rowPart rows n p ≡ damaged
@@ -175,15 +180,16 @@ unfolding intact size
 either-some true i e l r h = omega arith
 either-some false i e l r h = absurd (let z : _≡_ {A = ℕ} 0 1 = cc in omega arith)
 
+-- nor is it without rows, where it has no damage
 pub whole-some : (rows : ℕ → Row) (n m path low i : ℕ) → intact (unfolded rows n m path low i) ≡ true → 0 < size (unfolded rows n m path low i)
 unfolding unfolded
 whole-some rows n zero path low i h = either-some (judged n zero path low i (rows i)) _ _ _ _ h
 whole-some rows n (suc m) path low i h = either-some (judged n (suc m) path low i (rows i)) _ _ _ _ h
 
 -- below a row there is one bit less
-pub fewer : (m k : ℕ) → (m ≡ 0 → ⊥) → k ≡ pred m → suc k ≡ m
-fewer zero k e h = absurd (e refl)
-fewer (suc m) k e h = ap suc h
+pub fewer : (m k : ℕ) → 0 < m → k ≡ pred m → suc k ≡ m
+fewer zero k h e = absurd (not-suc-le-zero h)
+fewer (suc m) k h e = ap suc e
 
 -- ---- the listing of a part, written word by word
 
@@ -208,7 +214,7 @@ module _ (i : ℕ) (e : Entry) (l r : Tree) {t : Tree} (made : t ≡ row i e l r
       let all = sets-append (listing l) (listing r) (set buffer next (e .key)) (next + 1) in
       rw made (omega arith, rw (s, m, f, ← length-left, all, add-one))
 
--- what can be listed is no damage, and so are its parts
+-- where a part has no damage, its row has none
 module _ (rows : ℕ → Row) (n : ℕ) (p : Place) (whole : intact (rowPart rows n p) ≡ true) where
   whole-judged : judged n (p .bits) (p .path) (p .low) (p .row) (rows (p .row)) ≡ true
   unfolding intact
@@ -224,20 +230,19 @@ module _ (rows : ℕ → Row) (n : ℕ) (p : Place) (whole : intact (rowPart row
   pub whole-held : holds p (rows (p .row)) ≡ true
   whole-held = both (ltb (p .row) n) (holds p (rows (p .row))) whole-judged .1
 
-module _ {table : List ℕ} {n : ℕ} {t : Tree} {buffer : List ℕ} {next : ℕ} (h : Listable table n t buffer next) (i : ℕ) (e : Entry) (l r : Tree) (made : t ≡ row i e l r) where
-  intact-parts : (intact l ≡ true) × (intact r ≡ true)
-  unfolding intact
-  intact-parts = both (intact l) (intact r) (rw made at (h .whole))
+-- and its two parts have none, and room in the buffer
+pub record Sides (l r : Tree) (buffer : List ℕ) (next : ℕ) : Type 0 where
+  pub whole-left : intact l ≡ true
+  pub whole-right : intact r ≡ true
+  pub room : next + suc (size l + size r) ≤ length buffer
 
-  sizes : next + suc (size l + size r) ≤ length buffer
-  unfolding size
-  sizes = rw made at (h .room)
-
-  pub listable-left : (written : List ℕ) (at : ℕ) → length written ≡ length buffer → at ≡ next + 1 → Listable table n l written at
-  listable-left written at same place = record { in-table = h .in-table; whole = intact-parts .0; room = omega (arith, sizes) }
-
-  pub listable-right : (written : List ℕ) (at : ℕ) → length written ≡ length buffer → at ≡ next + 1 + size l → Listable table n r written at
-  listable-right written at same place = record { in-table = h .in-table; whole = intact-parts .1; room = omega (arith, sizes) }
+pub sides :
+    {table : List ℕ} {n : ℕ} {t : Tree} {buffer : List ℕ} {next : ℕ} → Listable table n t buffer next
+    → (i : ℕ) (e : Entry) (l r : Tree) → t ≡ row i e l r → Sides l r buffer next
+unfolding intact size
+sides h i e l r made =
+    let parts = both (intact l) (intact r) (rw made at (h .whole)) in
+    record { whole-left = parts .0; whole-right = parts .1; room = rw made at (h .room) }
 
 -- ---- the whole table
 

@@ -11,7 +11,7 @@ use crate::table::row_at;
 ghost use mathlib.Core.Path.{_≡_};
 ghost use mathlib.Core.Bool.{true, false};
 ghost use mathlib.Core.List.{_++_};
-ghost use Prim.Native.Nat.{_+_, _*_, _≤_, _<_};
+ghost use Prim.Native.Nat.{_+_, _*_, _≤_};
 ghost use lib.ListN.{length, drop, replicate};
 ghost use lib.Seq.{sets};
 ghost use Rattle.ordered.specs.Word.{sideOf};
@@ -20,7 +20,7 @@ ghost use Rattle.pretree.specs.Table.{capacity, rowAt};
 ghost use Rattle.pretree.specs.Sound.{isSound};
 ghost use Rattle.pretree.specs.Reply.{refused, answered, wrong-header};
 ghost use Rattle.pretree.specs.Whole.{newReply, newTable, auditReply, listReply, listBuffer};
-ghost use Rattle.pretree.specs.Part.{root, below, holds, rowPart, linkPart, counted, Listable};
+ghost use Rattle.pretree.specs.Part.{root, below, Turns, holds, rowPart, sidePart, counted, Listable};
 
 // Where a row stands: its number, the bits left there, the bits of the path to it, and the least key that is no damage there.
 pub struct Place {
@@ -48,16 +48,17 @@ impl Place {
         }
     }
 
-    // Where the link on one side of the row leads, 0 for left and 1 for right.
-    fn below(self, key: u32, side: u32, link: u32) -> Place
-        requires { ⌜ (0 < self .bits) × (self .path < 4294967296) × (side < 2) ⌝ }
-        ensures { λ r. ⌜ r ≡ below self key (sideOf side) link ⌝ }
+    // Where the link on one side of the row leads: 0 is left, 1 is right.
+    fn below(self, row: Row, side: u32) -> Place
+        requires { ⌜ Turns self side ⌝ }
+        ensures { λ r. ⌜ r ≡ below self row (sideOf side) ⌝ }
     {
+        let link = if side == 0 { row.left } else { row.right };
         Place {
             row: link,
             bits: self.bits - 1,
             path: self.path * 2 + side as u64,
-            low: key as u64 + 1,
+            low: row.entry.key as u64 + 1,
         }
     }
 
@@ -104,24 +105,23 @@ fn row_counted(table: &[u32], count: u32, at: Place, rest: u32) -> Rest
     if at.bits == 0 {
         return Rest::Rows(rest - 1);
     }
-    let key = row.entry.key;
-    let lefts = link_counted(table, count, at.below(key, 0, row.left), rest - 1);
+    let lefts = side_counted(table, count, at, row, 0, rest - 1);
     match lefts {
-        Rest::Rows(more) => link_counted(table, count, at.below(key, 1, row.right), more),
+        Rest::Rows(more) => side_counted(table, count, at, row, 1, more),
         Rest::Damaged => Rest::Damaged,
     }
 }
 
-// The same of the part that a link leads to.
-fn link_counted(table: &[u32], count: u32, at: Place, rest: u32) -> Rest
-    requires { ⌜ (count ≤ capacity (now table)) × (at .bits ≤ 32) ⌝ }
-    ensures { λ r. ⌜ r ≡ counted (linkPart (rowAt (now (table .entry))) count at) rest ⌝ }
+// The same of the part on one side of a row.
+fn side_counted(table: &[u32], count: u32, above: Place, row: Row, side: u32, rest: u32) -> Rest
+    requires { ⌜ (count ≤ capacity (now table)) × (above .bits ≤ 32) × Turns above side ⌝ }
+    ensures { λ r. ⌜ r ≡ counted (sidePart (rowAt (now (table .entry))) count above row (sideOf side)) rest ⌝ }
 {
+    let at = above.below(row, side);
     if at.row == Header::NONE {
-        Rest::Rows(rest)
-    } else {
-        row_counted(table, count, at, rest)
+        return Rest::Rows(rest);
     }
+    row_counted(table, count, at, rest)
 }
 
 // Writes the listing of a row's part to the buffer from `next` on. The result is the place after it.
@@ -131,26 +131,33 @@ fn row_listed(table: &[u32], count: u32, at: Place, buffer: &mut [u32], next: us
     ensures { λ _. ⌜ now (buffer .exit) ≡ sets (now (buffer .entry)) next (listing (rowPart (rowAt (now (table .entry))) count at)) ⌝ }
 {
     let row = row_at(table, at.row);
-    let key = row.entry.key;
-    buffer[next] = key;
+    buffer[next] = row.entry.key;
     if at.bits == 0 {
         return next + 1;
     }
-    let middle = link_listed(table, count, at.below(key, 0, row.left), buffer, next + 1);
-    link_listed(table, count, at.below(key, 1, row.right), buffer, middle)
+    let middle = side_listed(table, count, at, row, 0, buffer, next + 1);
+    side_listed(table, count, at, row, 1, buffer, middle)
 }
 
-// The same of the part that a link leads to.
-fn link_listed(table: &[u32], count: u32, at: Place, buffer: &mut [u32], next: usize) -> usize
-    requires { ⌜ Listable (now table) count (linkPart (rowAt (now table)) count at) (now buffer) next ⌝ }
-    ensures { λ r. ⌜ r ≡ next + size (linkPart (rowAt (now (table .entry))) count at) ⌝ }
-    ensures { λ _. ⌜ now (buffer .exit) ≡ sets (now (buffer .entry)) next (listing (linkPart (rowAt (now (table .entry))) count at)) ⌝ }
+// The same of the part on one side of a row.
+fn side_listed(
+    table: &[u32],
+    count: u32,
+    above: Place,
+    row: Row,
+    side: u32,
+    buffer: &mut [u32],
+    next: usize,
+) -> usize
+    requires { ⌜ Turns above side × Listable (now table) count (sidePart (rowAt (now table)) count above row (sideOf side)) (now buffer) next ⌝ }
+    ensures { λ r. ⌜ r ≡ next + size (sidePart (rowAt (now (table .entry))) count above row (sideOf side)) ⌝ }
+    ensures { λ _. ⌜ now (buffer .exit) ≡ sets (now (buffer .entry)) next (listing (sidePart (rowAt (now (table .entry))) count above row (sideOf side))) ⌝ }
 {
+    let at = above.below(row, side);
     if at.row == Header::NONE {
-        next
-    } else {
-        row_listed(table, count, at, buffer, next)
+        return next;
     }
+    row_listed(table, count, at, buffer, next)
 }
 
 // Three zeros in every row up to capacity. "Words past the last whole row, or past that limit, are never changed."

@@ -1,42 +1,29 @@
 -- A table is sound when counting its rows off `count` meets no damage and leaves none.
-use Prim.Native.Nat.{_≤_}
-use mathlib.Core.Path.{_≡_, sym, ap, _∙_}
-use Rattle.pretree.specs.declared.whole.Place.{Place}
-use Rattle.pretree.proofs.Parts.{right-header, none-sound, counted-sound, spent}
+use mathlib.Core.Path.{sym}
 use borrow.Author.Needs.{needs}
+use Rattle.pretree.proofs.Parts.{right-header, none-sound, counted-sound}
 use Rattle.pretree.proofs.Header.is_sound.Statement.{statement}
 use Rattle.pretree.proofs.Header.is_sound.Tie as tie
-use Rattle.pretree.proofs.Header.is_sound.Reads as reads
-use Rattle.pretree.proofs.Header.is_sound.Lts as lts
-use Rattle.pretree.proofs.whole.Place.root.Reads as root-reads
-use Rattle.pretree.proofs.whole.row_counted.Reads as row-counted-reads
 
--- src/whole.rt:211:13
 returns : tie.Need-returns
 returns c =
     let a = c .before .before .args in
     sym (none-sound (a .self) (a .table .now) (c .if1 .taken))
 
--- src/whole.rt:213:46
 root-requires : tie.Need-root-requires
 root-requires c κs = search needs
 
--- src/whole.rt:213:13
 row-counted-requires : tie.Need-row-counted-requires
 row-counted-requires c κs =
     let s = c .before .before .before in
-    let right = right-header (s .args .self) (s .args .table .now) (s .pre) in
-    rw (c .root .ensures) right
+    rw (c .root .ensures) (right-header (s .args .self) (s .args .table .now) (s .pre))
 
--- src/whole.rt:215:24
 enum-known-rest : tie.Need-enum-known-rest
 enum-known-rest c = search needs
 
--- src/whole.rt:216:30
 enum-told : tie.Need-enum-told
 enum-told c = search needs
 
--- src/whole.rt:205:5
 returns-2 : tie.Need-returns-2
 returns-2 c =
     let f = c .before in
@@ -45,7 +32,6 @@ returns-2 c =
     let counted = rw (g .before .root .ensures) at (g .row-counted .ensures) in
     rw (counted-sound (s .args .self) (s .args .table .now) (g .before .before .if1 .left), ← counted, f .rest .given .1)
 
--- src/whole.rt:205:5
 returns-3 : tie.Need-returns-3
 returns-3 c =
     let g = c .before .before in

@@ -1,7 +1,8 @@
 -- Each test of the code is one of the definition's, and what is written is the listing of the whole tree.
 use Prim.Native.Nat.{_≤_}
-use mathlib.Core.Path.{_≡_, _∙_}
+use mathlib.Core.Path.{_≡_, sym, _∙_}
 use mathlib.Core.Bool.{true, false}
+use borrow.Author.Needs.{needs}
 use borrow.Author.Tests.{not-true, not-false, lt-ltb, le-ltb}
 use lib.ListN.{length}
 use Rattle.ordered.specs.Tree.{listing}
@@ -9,68 +10,47 @@ use Rattle.pretree.specs.Sound.{isSound}
 use Rattle.pretree.specs.Reply.{wrong-header}
 use Rattle.pretree.specs.Whole.{listReply, listBuffer}
 use Rattle.pretree.proofs.Parts.{none-shown, sound-listable, sound-listed}
-use borrow.Author.Needs.{needs}
 use Rattle.pretree.proofs.Header.list.Statement.{statement}
 use Rattle.pretree.proofs.Header.list.Tie as tie
-use Rattle.pretree.proofs.Header.list.Reads as reads
-use Rattle.pretree.proofs.Header.list.Lts as lts
-use Rattle.pretree.proofs.Header.is_sound.Reads as is-sound-reads
-use Rattle.pretree.proofs.Header.is_wrong.Reads as is-wrong-reads
-use Rattle.pretree.proofs.whole.Place.root.Reads as root-reads
-use Rattle.pretree.proofs.whole.done.Reads as done-reads
-use Rattle.pretree.proofs.whole.refused.Reads as refused-reads
-use Rattle.pretree.proofs.whole.row_listed.Reads as row-listed-reads
 
 -- what is known past the first two refusals
 right-there : (c : tie.Else1) → wrong-header (c .before .before .before .before .args .self) (c .before .before .before .before .args .table .now) ≡ false
-right-there c = cc
+right-there c = sym (c .before .is-wrong .ensures) ∙ c .if1 .left
 
 sound-there : (c : tie.Else2) → isSound (c .before .before .before .before .before .before .args .self) (c .before .before .before .before .before .before .args .table .now) ≡ true
-sound-there c = cc (not-false (c .before .is-sound .result) (c .if2 .left))
+sound-there c = sym (c .before .is-sound .ensures) ∙ not-false (c .before .is-sound .result) (c .if2 .left)
 
--- src/whole.rt:237:12
 is-wrong-requires : tie.Need-is-wrong-requires
 is-wrong-requires c κs = search needs
 
--- src/whole.rt:238:13
 refused-requires : tie.Need-refused-requires
 refused-requires c κs = search needs
 
--- src/whole.rt:238:13
 returns : tie.Need-returns
 unfolding listReply listBuffer
 returns c =
-    let a = c .before .before .before .before .before .args in
-    let wrong : wrong-header (a .self) (a .table .now) ≡ true = cc in
+    let wrong = sym (c .before .before .is-wrong .ensures) ∙ c .before .if1 .taken in
     (simp (wrong, c .refused .ensures), simp wrong)
 
--- src/whole.rt:240:13
 is-sound-requires : tie.Need-is-sound-requires
-is-sound-requires c κs =
-    right-there c
+is-sound-requires c κs = right-there c
 
--- src/whole.rt:241:13
 refused-requires-2 : tie.Need-refused-requires-2
 refused-requires-2 c κs = search needs
 
--- src/whole.rt:241:13
 returns-2 : tie.Need-returns-2
 unfolding listReply listBuffer
 returns-2 c =
     let e = c .before .before in
-    let a = e .before .before .before .before .before .args in
-    let damage : isSound (a .self) (a .table .now) ≡ false = cc (not-true (e .is-sound .result) (c .before .if2 .taken)) in
+    let damage = sym (e .is-sound .ensures) ∙ not-true (e .is-sound .result) (c .before .if2 .taken) in
     (simp (right-there (e .before), damage, c .refused2 .ensures), simp (right-there (e .before), damage))
 
--- src/whole.rt:243:27
 cast-if3 : tie.Need-cast-if3
 cast-if3 c = search needs
 
--- src/whole.rt:244:13
 refused-requires-3 : tie.Need-refused-requires-3
 refused-requires-3 c κs = search needs
 
--- src/whole.rt:244:13
 returns-3 : tie.Need-returns-3
 unfolding listReply listBuffer
 returns-3 c =
@@ -78,11 +58,9 @@ returns-3 c =
     let short = lt-ltb _ _ (c .before .if3 .taken) in
     (simp (right-there (e .before .before), sound-there e, short, c .refused3 .ensures), simp (right-there (e .before .before), sound-there e, short))
 
--- src/whole.rt:247:13
 done-requires : tie.Need-done-requires
 done-requires c κs = search needs
 
--- src/whole.rt:247:13
 returns-4 : tie.Need-returns-4
 unfolding listReply listBuffer listing
 returns-4 c =
@@ -93,11 +71,9 @@ returns-4 c =
     let empty = c .before .if4 .taken in
     (simp (good, sound-there e, room, c .done .ensures), simp (good, sound-there e, room) (rw (none-shown (a .self) (a .table .now) empty, empty)))
 
--- src/whole.rt:249:34
 root-requires : tie.Need-root-requires
 root-requires c κs = search needs
 
--- src/whole.rt:249:9
 row-listed-requires : tie.Need-row-listed-requires
 row-listed-requires c κs =
     let d = c .before .before in
@@ -105,15 +81,12 @@ row-listed-requires c κs =
     let a = e .before .before .before .before .before .before .args in
     rw (c .before .root .ensures) (sound-listable (a .self) (a .table .now) (sound-there e) (a .buffer .now) (d .before .if3 .left) (right-there (e .before .before)) (d .if4 .left))
 
--- src/whole.rt:250:9
 done-requires-2 : tie.Need-done-requires-2
 done-requires-2 c κs = search needs
 
--- src/whole.rt:233:5
 same-length : tie.Need-same-length
 same-length c = search needs
 
--- src/whole.rt:233:5
 returns-5 : tie.Need-returns-5
 unfolding listReply listBuffer
 returns-5 c =
@@ -126,7 +99,7 @@ returns-5 c =
     let room = le-ltb _ _ fits in
     let written = rw (g .before .before .root .ensures) at (g .row-listed .ensures .1) in
     let all = sound-listed (a .self) (a .table .now) (sound-there e) (a .buffer .now) fits (d .if4 .left) in
-    (simp (good, sound-there e, room, c .done2 .ensures), simp (good, sound-there e, room) (written ∙ all))
+    (simp (good, sound-there e, room, c .done2 .ensures), simp (good, sound-there e, room) (rw written all))
 
 pub list-spec : {M : Type 1} → statement M
 list-spec =

@@ -1,33 +1,22 @@
 -- A width that is wrong changes nothing; any other clears the table.
-use mathlib.Core.Path.{_≡_}
+use borrow.Author.Needs.{needs}
 use borrow.Author.Tests.{eq-eqb, ne-eqb, lt-ltb, le-ltb}
 use Rattle.pretree.specs.Whole.{newReply, newTable}
-use borrow.Author.Needs.{needs}
 use Rattle.pretree.proofs.Header.new.Statement.{statement}
 use Rattle.pretree.proofs.Header.new.Tie as tie
-use Rattle.pretree.proofs.Header.new.Reads as reads
-use Rattle.pretree.proofs.Header.new.Lts as lts
-use Rattle.pretree.proofs.Header.fresh.Reads as fresh-reads
-use Rattle.pretree.proofs.whole.clear.Reads as clear-reads
-use Rattle.pretree.proofs.whole.done.Reads as done-reads
-use Rattle.pretree.proofs.whole.refused.Reads as refused-reads
 
--- src/whole.rt:195:13
 refused-requires : tie.Need-refused-requires
 refused-requires c κs = search needs
 
--- src/whole.rt:195:13
 returns : tie.Need-returns
 unfolding newReply newTable
 returns c =
     let wrong = eq-eqb _ _ (c .before .if1 .taken) in
     (simp (wrong, c .refused .ensures), simp wrong)
 
--- src/whole.rt:198:13
 refused-requires-2 : tie.Need-refused-requires-2
 refused-requires-2 c κs = search needs
 
--- src/whole.rt:198:13
 returns-2 : tie.Need-returns-2
 unfolding newReply newTable
 returns-2 c =
@@ -35,23 +24,18 @@ returns-2 c =
     let some = ne-eqb _ _ (c .before .before .if1 .left) in
     (simp (some, wide, c .refused2 .ensures), simp (some, wide))
 
--- src/whole.rt:200:9
 clear-requires : tie.Need-clear-requires
 clear-requires c κs = search needs
 
--- src/whole.rt:201:14
 fresh-requires : tie.Need-fresh-requires
 fresh-requires c κs = search needs
 
--- src/whole.rt:201:9
 done-requires : tie.Need-done-requires
 done-requires c κs = search needs
 
--- src/whole.rt:191:5
 same-length : tie.Need-same-length
 same-length c = search needs
 
--- src/whole.rt:191:5
 returns-3 : tie.Need-returns-3
 unfolding newReply newTable
 returns-3 c =

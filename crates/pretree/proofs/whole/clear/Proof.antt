@@ -1,5 +1,5 @@
 -- The words below `at` are zeros, the others are as they were.
-use Prim.Native.Nat.{ℕ, _*_, _-_, _≤_, _<_}
+use Prim.Native.Nat.{ℕ, _*_, _-_, _≤_}
 use mathlib.Core.Path.{_≡_, refl, ap, _∙_}
 use mathlib.Core.List.{List, _++_}
 use native.Mathlib.Omega.{arith}
@@ -9,9 +9,6 @@ use lib.ListN.{length, set, drop, replicate, length-set}
 use Rattle.pretree.specs.Table.{capacity}
 use Rattle.pretree.proofs.whole.clear.Statement.{statement}
 use Rattle.pretree.proofs.whole.clear.Tie as tie
-use Rattle.pretree.proofs.whole.clear.Reads as reads
-use Rattle.pretree.proofs.whole.clear.Lts as lts
-use Rattle.pretree.proofs.table.capacity.Reads as capacity-reads
 
 record Cleared (table₀ : List ℕ) (words : ℕ) (table : List ℕ) (at : ℕ) : Type 0 where
   zeros : table ≡ replicate at 0 ++ drop at table₀

@@ -2,14 +2,11 @@
 use Prim.Native.Nat.{_/_, _^_, _≤_}
 use mathlib.Core.Path.{_≡_}
 use native.Mathlib.Nat.{pos-of-ne-zero}
-use native.Mathlib.Omega.{arith}
 use borrow.Author.Needs.{needs}
 use borrow.Author.Tests.{eq-eqb, ne-eqb, le-leb, lt-leb}
 use Rattle.pretree.proofs.Tests.{inner, deepest-row}
 use Rattle.pretree.proofs.whole.Place.holds.Statement.{statement}
 use Rattle.pretree.proofs.whole.Place.holds.Tie as tie
-use Rattle.pretree.proofs.whole.Place.holds.Reads as reads
-use Rattle.pretree.proofs.whole.Place.holds.Lts as lts
 
 cast-key : tie.Need-cast-key
 cast-key c = search needs
