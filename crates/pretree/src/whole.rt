@@ -9,10 +9,10 @@ use crate::Row;
 use crate::table::capacity;
 use crate::table::row_at;
 ghost use mathlib.Core.Path.{_≡_};
-ghost use mathlib.Core.Bool.{true, false};
+ghost use mathlib.Core.Bool.{false};
 ghost use mathlib.Core.List.{_++_};
 ghost use Prim.Native.Nat.{_+_, _*_, _≤_};
-ghost use lib.ListN.{length, drop, replicate};
+ghost use lib.ListN.{drop, replicate};
 ghost use lib.Seq.{sets};
 ghost use Rattle.ordered.specs.Word.{sideOf};
 ghost use Rattle.ordered.specs.Tree.{listing, size};
@@ -30,7 +30,7 @@ pub struct Place {
     pub low: u64,
 }
 
-// How many rows may still be met after those of a part.
+// How many rows may still be met after those of a part; or there is damage in it, or it has more rows than may be met.
 pub enum Rest {
     Rows(u32),
     Damaged,
@@ -195,6 +195,7 @@ fn done(header: Header, rows: u32) -> Reply
 }
 
 impl Header {
+    // "`new` makes no check but 1; it clears every row and hands back its W with a count of 0."
     pub fn new(self, table: &mut [u32], width: u32) -> Reply
         ensures { λ r. ⌜ (r ≡ newReply self width) × (now (table .exit) ≡ newTable (now (table .entry)) width) ⌝ }
     {
@@ -208,7 +209,7 @@ impl Header {
         done(Header::fresh(width), 0)
     }
 
-    // The whole tree has no damage and as many rows as are in use: none is left that nothing leads to.
+    // The whole tree has no damage and as many rows as are in use, so that no row is left to which nothing leads.
     fn is_sound(self, table: &[u32]) -> bool
         requires { ⌜ wrong-header self (now table) ≡ false ⌝ }
         ensures { λ r. ⌜ r ≡ isSound self (now (table .entry)) ⌝ }
@@ -224,6 +225,7 @@ impl Header {
         }
     }
 
+    // "`audit` says whether the table is sound."
     pub fn audit(self, table: &[u32]) -> Reply
         ensures { λ r. ⌜ r ≡ auditReply self (now (table .entry)) ⌝ }
     {
@@ -236,7 +238,7 @@ impl Header {
         done(self, self.count)
     }
 
-    // All is judged before anything is written.
+    // "`list` writes it to a lent buffer of 32-bit words and leaves the rest of the buffer." All is judged before anything is written.
     pub fn list(self, table: &[u32], buffer: &mut [u32]) -> Reply
         ensures { λ r. ⌜ (r ≡ listReply self (now (table .entry)) (now (buffer .entry))) × (now (buffer .exit) ≡ listBuffer self (now (table .entry)) (now (buffer .entry))) ⌝ }
     {
