@@ -6,77 +6,100 @@ use pretree::Header;
 use pretree::Reply;
 
 fn main() {
-    news();
+    lengths();
+    widths();
     sound();
-    damaged();
+    wrong_headers();
+    links();
+    loops();
+    shared();
+    keys();
     buffers();
+    listings();
+    refusals();
 }
 
-// Tables of length 0, 2, 3 and 7, and the widths 0, 1, 32 and 33.
-fn news() {
+// `new` on tables of length 0, 2, 3 and 7
+fn lengths() {
     let mut none = [0u32; 0];
     renewed(4, &mut none);
     renewed(4, &mut [5, 6]);
     renewed(4, &mut [5, 6, 7]);
     renewed(4, &mut [1, 2, 3, 4, 5, 6, 7]);
+}
+
+// `new` at the widths 1, 32, 0 and 33
+fn widths() {
     renewed(1, &mut [5, 6, 7]);
     renewed(32, &mut [5, 6, 7]);
     renewed(0, &mut [5, 6, 7]);
     renewed(33, &mut [5, 6, 7]);
 }
 
+// A of document 01; the empty set, at any rows; the widest word; the two words of one bit
 fn sound() {
-    // A of document 01
     audited(4, 4, &[4, 0, 1, 8, 2, 3, 11, 0, 0, 15, 0, 0]);
-    // the empty set, at any rows
     audited(4, 0, &[9, 9, 9]);
-    // the widest word, and the two words of one bit
     audited(32, 1, &[4294967295, 0, 0]);
     audited(1, 2, &[0, 0, 1, 1, 0, 0]);
-    // a header that is wrong: its width, its count
+}
+
+// a width of 0, a width above 32, a count above capacity
+fn wrong_headers() {
     audited(0, 1, &[0, 0, 0]);
     audited(33, 1, &[0, 0, 0]);
     audited(4, 2, &[0, 0, 0, 0, 0]);
 }
 
-fn damaged() {
-    // the one row 4, 0, 9 of document 01
+// the one row 4, 0, 9 of document 01; a row to which nothing leads
+fn links() {
     audited(4, 1, &[4, 0, 9]);
-    // a row that nothing leads to
     audited(4, 3, &[4, 0, 1, 8, 0, 0, 11, 0, 0]);
-    // row 1 leads to itself; rows 1 and 2 lead to each other
+}
+
+// row 1 leads to itself; rows 1 and 2 lead to each other
+fn loops() {
     audited(4, 2, &[4, 0, 1, 8, 0, 1]);
     audited(4, 3, &[4, 0, 1, 8, 2, 0, 11, 0, 1]);
-    // row 2 is shared by row 0 and row 1
+}
+
+// row 2 is below row 0 and below row 1; row 1 is on both sides of row 0
+fn shared() {
     audited(4, 3, &[0, 1, 2, 1, 0, 2, 8, 0, 0]);
-    // row 1 is both parts of row 0
     audited(4, 2, &[4, 1, 1, 8, 0, 0]);
-    // a key that does not rise, that has not the path's bits, that is 2^W
+}
+
+// a key that does not rise, one without the bits of its path, one of 2^W; a row deeper than W
+fn keys() {
     audited(4, 2, &[9, 0, 1, 8, 0, 0]);
     audited(4, 2, &[4, 1, 0, 8, 0, 0]);
     audited(4, 1, &[16, 0, 0]);
-    // a row deeper than W
     audited(1, 3, &[0, 0, 1, 1, 0, 2, 2, 0, 0]);
 }
 
-// Buffers too short, exact and too long; refusals leave the whole buffer.
+// A, with a buffer that is too short, exact and too long
 fn buffers() {
     let a: [u32; 12] = [4, 0, 1, 8, 2, 3, 11, 0, 0, 15, 0, 0];
     listed(4, 4, &a, &mut [70, 71, 72]);
     listed(4, 4, &a, &mut [70, 71, 72, 73]);
     listed(4, 4, &a, &mut [70, 71, 72, 73, 74, 75]);
-    // B of document 01, with its rows in another order
+}
+
+// B of document 01, with its rows in another order; the empty set
+fn listings() {
     listed(
         3,
         5,
         &[0, 4, 1, 4, 0, 0, 2, 0, 3, 3, 0, 0, 1, 0, 2],
         &mut [70, 71, 72, 73, 74, 75],
     );
-    // the empty set
-    listed(4, 0, &a, &mut [70, 71]);
-    // a wrong header goes before damage, damage before a short buffer
-    listed(4, 5, &a, &mut [70, 71]);
-    listed(4, 1, &[4, 0, 9], &mut [70, 71]);
+    listed(4, 0, &[9, 9, 9], &mut [70, 71]);
+}
+
+// a wrong header goes before damage, and damage before a short buffer
+fn refusals() {
+    listed(4, 2, &[4, 0, 9], &mut [70]);
+    listed(4, 1, &[4, 0, 9], &mut [70]);
     listed(4, 3, &[4, 0, 1, 8, 0, 0, 11, 0, 0], &mut [70, 71]);
 }
 
