@@ -10,3 +10,4 @@ pub mod Neighbours
 pub mod Nearest
 pub mod SoundTest
 pub mod Starred
+pub mod Parts

@@ -8,6 +8,7 @@ mod near;
 mod seek;
 mod table;
 mod walk;
+mod whole;
 
 ghost use mathlib.Core.Path.{_≡_};
 ghost use Rattle.pretree.specs.Reply.{fresh};
