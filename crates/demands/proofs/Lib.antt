@@ -1,0 +1,4 @@
+pub mod Numbers
+pub mod Unfolding
+pub mod Meeting
+pub mod SoundIs

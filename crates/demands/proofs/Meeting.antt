@@ -1,0 +1,225 @@
+-- The rows that are met from row 0 are those of the tree that is shown, where it shows no damage; and it shows none where the rows that are
+-- met are as document 01 asks of a sound table.
+use Prim.Native.Nat.{ℕ, zero, suc, _+_, _*_, _-_, _/_, _^_, _≤_, _<_}
+use mathlib.Core.Path.{_≡_, refl, sym, ap, ap₂, _∙_}
+use mathlib.Core.Bool.{Bool, true, false, _&&_}
+use mathlib.Core.List.{List, [], _∷_, _++_, map, map-append}
+use native.Mathlib.Nat.{div-lt-iff-lt-mul}
+use native.Mathlib.Omega.{arith}
+use lib.Dec.{ltb, leb, eqb}
+use lib.Pow.{pow-pos, pow-add}
+use borrow.Author.Tests.{ltb-true, eqb-true, eq-eqb}
+use Rattle.ordered.specs.Such.{if_then_else_}
+use Rattle.ordered.specs.Word.{Side, left, right, bitOf}
+use Rattle.ordered.specs.Dictionary.{Above, none-above, one-above, Increasing, none-increasing, one-increasing}
+use Rattle.ordered.specs.Tree.{Tree, none, row, damaged, Entry, part, listing, intact}
+use Rattle.ordered.specs.Proper.{Fitting, Proper-row, Proper}
+use Rattle.ordered.proofs.Lists.{increasing-parts}
+use Rattle.pretree.specs.declared.Row.{Row}
+use Rattle.pretree.specs.Table.{link}
+use Rattle.pretree.specs.Unfold.{linked, unfolded}
+use Rattle.pretree.specs.Sound.{Met, met-by, met, times, keysOf, Each, none-met, one-met, InPlace, SoundRows}
+use Rattle.demands.specs.Numbers.{numbers, often}
+use Rattle.demands.proofs.Unfolding.{both, along-link, key, hanging, row-with, Unharmed, shown-row, open-row}
+
+each-map : {P Q : Met → Type 0} {xs : List Met} → ((x : Met) → P x → Q x) → Each P xs → Each Q xs
+each-map f none-met = none-met
+each-map f (one-met {x} h hs) = one-met (f x h) (each-map f hs)
+
+each-append : {P : Met → Type 0} {xs ys : List Met} → Each P xs → Each P ys → Each P (xs ++ ys)
+each-append none-met k = k
+each-append (one-met h hs) k = one-met h (each-append hs k)
+
+each-parts : {P : Met → Type 0} (xs ys : List Met) → Each P (xs ++ ys) → Each P xs × Each P ys
+each-parts [] ys k = (none-met, k)
+each-parts (x ∷ xs) ys (one-met h hs) = let k = each-parts xs ys hs in (one-met h (k .0), k .1)
+
+each-both : {P Q : Met → Type 0} {xs : List Met} → Each P xs → Each Q xs → Each (λ x. P x × Q x) xs
+each-both none-met none-met = none-met
+each-both (one-met h hs) (one-met k ks) = one-met (h, k) (each-both hs ks)
+
+keys-append : (xs ys : List Met) → keysOf (xs ++ ys) ≡ keysOf xs ++ keysOf ys
+unfolding keysOf
+keys-append [] ys = refl
+keys-append (x ∷ xs) ys = ap (λ ks. x .key ∷ ks) (keys-append xs ys)
+
+abbrev the-row : ℕ → ℕ → ℕ → ℕ → Met
+the-row d path i k = record { at = i; key = k; depth = d; path = path }
+
+-- the rows of a tree, as they are met from depth d
+unfoldable pub met-in : ℕ → ℕ → Tree → List Met
+met-in d path none = []
+met-in d path (row i e l r) =
+    the-row d path i (e .key) ∷ (met-in (suc d) (path * 2 + bitOf left) l ++ met-in (suc d) (path * 2 + bitOf right) r)
+met-in d path damaged = []
+
+pub keys-met : (d path : ℕ) (t : Tree) → keysOf (met-in d path t) ≡ listing t
+unfolding met-in keysOf listing
+keys-met d path none = refl
+keys-met d path (row i e l r) =
+    rw (keys-append, keys-met (suc d) (path * 2 + bitOf left) l, keys-met (suc d) (path * 2 + bitOf right) r)
+keys-met d path damaged = refl
+
+numbers-met : (d path : ℕ) (t : Tree) → map (λ x. x .at) (met-in d path t) ≡ numbers t
+unfolding met-in numbers
+numbers-met d path none = refl
+numbers-met d path (row i e l r) =
+    rw (map-append, numbers-met (suc d) (path * 2 + bitOf left) l, numbers-met (suc d) (path * 2 + bitOf right) r)
+numbers-met d path damaged = refl
+
+times-often : (i : ℕ) (xs : List Met) → times i xs ≡ often i (map (λ x. x .at) xs)
+unfolding times often
+times-often i [] = refl
+times-often i (x ∷ xs) = rw (times-often i xs)
+
+pub times-met : (i d path : ℕ) (t : Tree) → times i (met-in d path t) ≡ often i (numbers t)
+times-met i d path t = times-often i (met-in d path t) ∙ ap (often i) (numbers-met d path t)
+
+-- a row with the bits of its path is below 2 ^ W
+module _ (W d m path k : ℕ) (whole : d + m ≡ W) (short : path < 2 ^ d) (on-path : k / 2 ^ m ≡ path) where
+  in-place : (i : ℕ) → InPlace W (the-row d path i k)
+  in-place i =
+      let high : k / 2 ^ m < 2 ^ d = rw on-path short in
+      let left-over : W - d ≡ m = omega arith in
+      record {
+        below = rw (← whole, pow-add) (div-lt-iff-lt-mul (pow-pos m) .0 high);
+        bits = rw left-over on-path;
+        shallow = omega arith;
+      }
+
+longer : (d path : ℕ) (s : Side) → path < 2 ^ d → path * 2 + bitOf s < 2 ^ suc d
+longer d path left h = omega arith
+longer d path right h = omega arith
+
+-- the rows of a proper tree are in their places
+pub proper-in-place : (W d m path low : ℕ) (t : Tree) → d + m ≡ W → path < 2 ^ d → Proper m path low t → Each (InPlace W) (met-in d path t)
+unfolding Proper met-in
+proper-in-place W d zero path low none whole short h = none-met
+proper-in-place W d zero path low (row i e l r) whole short h =
+    rw (h .parts left, h .parts right) (one-met (in-place W d zero path (e .key) whole short (h .key-fits .on-path) i) none-met)
+proper-in-place W d zero path low damaged whole short h = absurd h
+proper-in-place W d (suc m) path low none whole short h = none-met
+proper-in-place W d (suc m) path low (row i e l r) whole short h =
+    let below : (s : Side) → Each (InPlace W) (met-in (suc d) (path * 2 + bitOf s) (part s l r)) =
+    λ s. proper-in-place W (suc d) m (path * 2 + bitOf s) (suc (e .key)) (part s l r) (omega arith) (longer d path s short) (h .parts s)
+    in
+    one-met (in-place W d (suc m) path (e .key) whole short (h .key-fits .on-path) i) (each-append (below left) (below right))
+proper-in-place W d (suc m) path low damaged whole short h = absurd h
+
+module _ (rows : ℕ → Row) (n : ℕ) where
+  -- with no bit left both links are none
+  no-links : (r : Row) → (eqb (r .left) 0 && eqb (r .right) 0) ≡ true → (r .left ≡ 0) × (r .right ≡ 0)
+  no-links r h = let b = both (eqb (r .left) 0) (eqb (r .right) 0) h in (eqb-true (r .left) 0 (b .0), eqb-true (r .right) 0 (b .1))
+
+  -- what is met where no damage is shown; one level more than there are bits left is looked at
+  pub met-shown :
+      (m d path low i : ℕ) → intact (unfolded rows n m path low i) ≡ true
+      → met rows (suc (suc m)) d path i ≡ met-in d path (unfolded rows n m path low i)
+  unfolding met met-in
+  met-shown zero d path low i h =
+      let o = open-row rows n zero path low i h in
+      let ends = no-links (rows i) (o .unharmed .links-end) in
+      rw (o .shows, ends .0, ends .1)
+  met-shown (suc m) d path low i h =
+      let o = open-row rows n (suc m) path low i h in
+      let below : (s : Side) → met-by (met rows (suc (suc m)) (suc d) (path * 2 + bitOf s)) (link (rows i) s) ≡ met-in (suc d) (path * 2 + bitOf s) (hanging rows n (suc m) path i s) =
+      λ s.
+      along-link (λ j t. met-by (met rows (suc (suc m)) (suc d) (path * 2 + bitOf s)) j ≡ met-in (suc d) (path * 2 + bitOf s) t)
+      (unfolded rows n m (path * 2 + bitOf s) (suc (key rows i))) refl
+      (λ k. met-shown m (suc d) (path * 2 + bitOf s) (suc (key rows i)) (suc k)) (link (rows i) s) (o .parts s)
+      in
+      rw (o .shows) (ap₂ (λ xs ys. the-row d path i (key rows i) ∷ (xs ++ ys)) (below left) (below right))
+
+-- a row that is met in a sound table, in a part of which the keys are `low` or more
+pub record Right (n W low : ℕ) (x : Met) : Type 0 where
+  pub in-use : x .at < n
+  pub not-below : low ≤ x .key
+  pub placed : InPlace W x
+
+-- and all the rows of such a part
+pub record Orderly (n W low : ℕ) (xs : List Met) : Type 0 where
+  pub each : Each (Right n W low) xs
+  pub rising : Increasing (keysOf xs)
+
+module _ (n W low : ℕ) where
+  raised : (k : ℕ) (xs : List Met) → Above k (keysOf xs) → Each (Right n W low) xs → Each (Right n W (suc k)) xs
+  unfolding keysOf
+  raised k [] a rs = none-met
+  raised k (x ∷ xs) (one-above h a) (one-met r rs) = one-met (record { in-use = r .in-use; not-below = h; placed = r .placed }) (raised k xs a rs)
+
+  first-row : (x : Met) (xs : List Met) → Orderly n W low (x ∷ xs) → Right n W low x × Orderly n W (suc (x .key)) xs
+  unfolding keysOf
+  first-row x xs o = go (o .each) (o .rising)
+    where
+      go : Each (Right n W low) (x ∷ xs) → Increasing (x .key ∷ keysOf xs) → Right n W low x × Orderly n W (suc (x .key)) xs
+      go (one-met r rs) (one-increasing a h) = (r, record { each = raised (x .key) xs a rs; rising = h })
+
+  two-parts : (xs ys : List Met) → Orderly n W low (xs ++ ys) → Orderly n W low xs × Orderly n W low ys
+  two-parts xs ys o =
+      let e = each-parts xs ys (o .each) in
+      let i = increasing-parts (keysOf xs) (keysOf ys) (rw keys-append at (o .rising)) in
+      (record { each = e .0; rising = i .0 }, record { each = e .1; rising = i .1 })
+
+module _ (rows : ℕ → Row) (n W : ℕ) where
+  -- what is met from the link of row i on side s
+  abbrev met-from : ℕ → ℕ → ℕ → ℕ → Side → List Met
+  met-from levels d path i s = met-by (met rows levels (suc d) (path * 2 + bitOf s)) (link (rows i) s)
+
+  met-row : (low levels d path i : ℕ) → Orderly n W low (met rows (suc levels) d path i)
+      → Right n W low (the-row d path i (key rows i)) × ((s : Side) → Orderly n W (suc (key rows i)) (met-from levels d path i s))
+  unfolding met
+  met-row low levels d path i o =
+      let f = first-row n W low (the-row d path i (key rows i)) (met-from levels d path i left ++ met-from levels d path i right) o in
+      let t = two-parts n W (suc (key rows i)) (met-from levels d path i left) (met-from levels d path i right) (f .1) in
+      (f .0, elim [ left ↦ t .0 | right ↦ t .1 ])
+
+  fits : (m d path low i : ℕ) → d + m ≡ W → Right n W low (the-row d path i (key rows i)) → Fitting m path low (key rows i)
+  fits m d path low i whole r =
+      let left-over : W - d ≡ m = omega arith in
+      record { not-below = r .not-below; on-path = rw left-over at (r .placed .bits) }
+
+  too-deep : (low d path j : ℕ) → d + 0 ≡ W → Orderly n W low (met-by (met rows 1 (suc d) path) j) → j ≡ 0
+  too-deep low d path zero whole o = refl
+  too-deep low d path (suc j) whole o = absurd (omega (arith, met-row low 0 (suc d) path (suc j) o .0 .placed .shallow))
+
+  -- where the rows that are met are as in a sound table, no damage is shown
+  pub met-intact : (m d path low i : ℕ) → d + m ≡ W → Orderly n W low (met rows (suc (suc m)) d path i) → intact (unfolded rows n m path low i) ≡ true
+  unfolding intact
+  met-intact zero d path low i whole o =
+      let r = met-row low 1 d path i o in
+      let none-there : (s : Side) → link (rows i) s ≡ 0 = λ s. too-deep (suc (key rows i)) d (path * 2 + bitOf s) (link (rows i) s) whole (r .1 s) in
+      rw (shown-row rows n zero path low i (record {
+        in-use = r .0 .in-use;
+        key-fits = fits zero d path low i whole (r .0);
+        links-end = rw (none-there left, none-there right);
+      }))
+  met-intact (suc m) d path low i whole o =
+      let r = met-row low (suc (suc m)) d path i o in
+      let below : Side → ℕ → Tree = λ s. unfolded rows n m (path * 2 + bitOf s) (suc (key rows i)) in
+      let undamaged : (s : Side) (j : ℕ) → Orderly n W (suc (key rows i)) (met-by (met rows (suc (suc m)) (suc d) (path * 2 + bitOf s)) j) → intact (linked (below s) j) ≡ true =
+      λ s. elim [ zero ↦ λ o. refl | suc j ↦ met-intact m (suc d) (path * 2 + bitOf s) (suc (key rows i)) (suc j) (omega arith) ]
+      in
+      rw (
+        shown-row rows n (suc m) path low i (record { in-use = r .0 .in-use; key-fits = fits (suc m) d path low i whole (r .0); links-end = refl }),
+        undamaged left (link (rows i) left) (r .1 left),
+        undamaged right (link (rows i) right) (r .1 right),
+      )
+
+-- a row that is met is met once at least
+met-at-least-once : (xs : List Met) → Each (λ x. 1 ≤ times (x .at) xs) xs
+unfolding times
+met-at-least-once [] = none-met
+met-at-least-once (x ∷ xs) =
+    one-met {x = x} (rw (eq-eqb (x .at) (x .at) refl) (omega arith)) (each-map (λ y h. omega arith) (met-at-least-once xs))
+
+-- so in a sound table it is in use
+pub sound-orderly : (W n : ℕ) (xs : List Met) → SoundRows W n xs → Orderly n W 0 xs
+sound-orderly W n xs s =
+    record {
+      each = each-map (λ x h. record { in-use = used x (ltb (x .at) n) refl (h .0); not-below = omega arith; placed = h .1 }) (each-both (met-at-least-once xs) (s .in-place));
+      rising = s .increase;
+    }
+  where
+    used : (x : Met) (b : Bool) → ltb (x .at) n ≡ b → 1 ≤ times (x .at) xs → x .at < n
+    used x true e h = ltb-true (x .at) n e
+    used x false e h = absurd (let never : times (x .at) xs ≡ 0 = rw (s .each-once (x .at), e) in omega arith)
