@@ -17,10 +17,10 @@ use Rattle.ordered.specs.Proper.{Fitting, Proper-row, Proper}
 use Rattle.ordered.proofs.Lists.{increasing-parts}
 use Rattle.pretree.specs.declared.Row.{Row}
 use Rattle.pretree.specs.Table.{link}
-use Rattle.pretree.specs.Unfold.{linked, unfolded}
+use Rattle.pretree.specs.Unfold.{ends-there, linked, unfolded}
 use Rattle.pretree.specs.Sound.{Met, met-by, met, times, keysOf, Each, none-met, one-met, InPlace, SoundRows}
 use Rattle.demands.specs.Numbers.{numbers, often}
-use Rattle.demands.proofs.Unfolding.{both, along-link, key, hanging, row-with, Unharmed, shown-row, open-row}
+use Rattle.demands.proofs.Unfolding.{both, along-link, by-link, key, hanging, NoDamage, intact-row, Opened, opened}
 
 each-map : {P Q : Met → Type 0} {xs : List Met} → ((x : Met) → P x → Q x) → Each P xs → Each Q xs
 each-map f none-met = none-met
@@ -29,6 +29,9 @@ each-map f (one-met {x} h hs) = one-met (f x h) (each-map f hs)
 each-append : {P : Met → Type 0} {xs ys : List Met} → Each P xs → Each P ys → Each P (xs ++ ys)
 each-append none-met k = k
 each-append (one-met h hs) k = one-met h (each-append hs k)
+
+both-sides : {P : Met → Type 0} (xs : Side → List Met) → ((s : Side) → Each P (xs s)) → Each P (xs left ++ xs right)
+both-sides xs h = each-append (h left) (h right)
 
 each-parts : {P : Met → Type 0} (xs ys : List Met) → Each P (xs ++ ys) → Each P xs × Each P ys
 each-parts [] ys k = (none-met, k)
@@ -87,6 +90,11 @@ module _ (W d m path k : ℕ) (whole : d + m ≡ W) (short : path < 2 ^ d) (on-p
         shallow = omega arith;
       }
 
+-- with no bit left both links are none
+no-link : (r : Row) → ends-there 0 r ≡ true → (s : Side) → link r s ≡ 0
+no-link r h left = eqb-true (r .left) 0 (both (eqb (r .left) 0) (eqb (r .right) 0) h .0)
+no-link r h right = eqb-true (r .right) 0 (both (eqb (r .left) 0) (eqb (r .right) 0) h .1)
+
 longer : (d path : ℕ) (s : Side) → path < 2 ^ d → path * 2 + bitOf s < 2 ^ suc d
 longer d path left h = omega arith
 longer d path right h = omega arith
@@ -100,58 +108,62 @@ proper-in-place W d zero path low (row i e l r) whole short h =
 proper-in-place W d zero path low damaged whole short h = absurd h
 proper-in-place W d (suc m) path low none whole short h = none-met
 proper-in-place W d (suc m) path low (row i e l r) whole short h =
-    let below : (s : Side) → Each (InPlace W) (met-in (suc d) (path * 2 + bitOf s) (part s l r)) =
-    λ s. proper-in-place W (suc d) m (path * 2 + bitOf s) (suc (e .key)) (part s l r) (omega arith) (longer d path s short) (h .parts s)
-    in
-    one-met (in-place W d (suc m) path (e .key) whole short (h .key-fits .on-path) i) (each-append (below left) (below right))
+    one-met (in-place W d (suc m) path (e .key) whole short (h .key-fits .on-path) i)
+    (both-sides (λ s. met-in (suc d) (path * 2 + bitOf s) (part s l r)) (λ s.
+    proper-in-place W (suc d) m (path * 2 + bitOf s) (suc (e .key)) (part s l r) (omega arith) (longer d path s short) (h .parts s)))
 proper-in-place W d (suc m) path low damaged whole short h = absurd h
 
-module _ (rows : ℕ → Row) (n : ℕ) where
-  -- with no bit left both links are none
-  no-links : (r : Row) → (eqb (r .left) 0 && eqb (r .right) 0) ≡ true → (r .left ≡ 0) × (r .right ≡ 0)
-  no-links r h = let b = both (eqb (r .left) 0) (eqb (r .right) 0) h in (eqb-true (r .left) 0 (b .0), eqb-true (r .right) 0 (b .1))
+module _ (rows : ℕ → Row) where
+  -- what is met from the link of row i on side s
+  abbrev met-from : ℕ → ℕ → ℕ → ℕ → Side → List Met
+  met-from levels d path i s = met-by (met rows levels (suc d) (path * 2 + bitOf s)) (link (rows i) s)
 
-  -- what is met where no damage is shown; one level more than there are bits left is looked at
-  pub met-shown :
-      (m d path low i : ℕ) → intact (unfolded rows n m path low i) ≡ true
-      → met rows (suc (suc m)) d path i ≡ met-in d path (unfolded rows n m path low i)
-  unfolding met met-in
-  met-shown zero d path low i h =
-      let o = open-row rows n zero path low i h in
-      let ends = no-links (rows i) (o .unharmed .links-end) in
-      rw (o .shows, ends .0, ends .1)
-  met-shown (suc m) d path low i h =
-      let o = open-row rows n (suc m) path low i h in
-      let below : (s : Side) → met-by (met rows (suc (suc m)) (suc d) (path * 2 + bitOf s)) (link (rows i) s) ≡ met-in (suc d) (path * 2 + bitOf s) (hanging rows n (suc m) path i s) =
-      λ s.
-      along-link (λ j t. met-by (met rows (suc (suc m)) (suc d) (path * 2 + bitOf s)) j ≡ met-in (suc d) (path * 2 + bitOf s) t)
-      (unfolded rows n m (path * 2 + bitOf s) (suc (key rows i))) refl
-      (λ k. met-shown m (suc d) (path * 2 + bitOf s) (suc (key rows i)) (suc k)) (link (rows i) s) (o .parts s)
-      in
-      rw (o .shows) (ap₂ (λ xs ys. the-row d path i (key rows i) ∷ (xs ++ ys)) (below left) (below right))
+  module _ (n : ℕ) where
+    shown-row-met :
+        (levels m d path low i : ℕ) → Opened rows n m path low i
+        → ((s : Side) → met-from levels d path i s ≡ met-in (suc d) (path * 2 + bitOf s) (hanging rows n m path i s))
+        → met rows (suc levels) d path i ≡ met-in d path (unfolded rows n m path low i)
+    unfolding met met-in
+    shown-row-met levels m d path low i o parts = rw (o .shows) (ap₂ (λ xs ys. the-row d path i (key rows i) ∷ (xs ++ ys)) (parts left) (parts right))
 
--- a row that is met in a sound table, in a part of which the keys are `low` or more
-pub record Right (n W low : ℕ) (x : Met) : Type 0 where
+    -- what is met where no damage is shown; one level more than there are bits left is looked at
+    pub met-shown :
+        (m d path low i : ℕ) → intact (unfolded rows n m path low i) ≡ true
+        → met rows (suc (suc m)) d path i ≡ met-in d path (unfolded rows n m path low i)
+    unfolding met-in
+    met-shown zero d path low i h =
+        let o = opened rows n zero path low i h in
+        shown-row-met 1 zero d path low i o (λ s. rw (no-link (rows i) (o .no-damage .links-end) s))
+    met-shown (suc m) d path low i h =
+        let o = opened rows n (suc m) path low i h in
+        let low′ : ℕ = suc (key rows i) in
+        shown-row-met (suc (suc m)) (suc m) d path low i o (λ s.
+        along-link (λ j t. met-by (met rows (suc (suc m)) (suc d) (path * 2 + bitOf s)) j ≡ met-in (suc d) (path * 2 + bitOf s) t)
+        (unfolded rows n m (path * 2 + bitOf s) low′) refl
+        (λ k. met-shown m (suc d) (path * 2 + bitOf s) low′ (suc k)) (link (rows i) s) (o .parts s))
+
+-- a row that is met as in a sound table, in a part of which the keys are `low` or more
+pub record InOrder (n W low : ℕ) (x : Met) : Type 0 where
   pub in-use : x .at < n
   pub not-below : low ≤ x .key
   pub placed : InPlace W x
 
 -- and all the rows of such a part
 pub record Orderly (n W low : ℕ) (xs : List Met) : Type 0 where
-  pub each : Each (Right n W low) xs
+  pub each : Each (InOrder n W low) xs
   pub rising : Increasing (keysOf xs)
 
 module _ (n W low : ℕ) where
-  raised : (k : ℕ) (xs : List Met) → Above k (keysOf xs) → Each (Right n W low) xs → Each (Right n W (suc k)) xs
+  raised : (k : ℕ) (xs : List Met) → Above k (keysOf xs) → Each (InOrder n W low) xs → Each (InOrder n W (suc k)) xs
   unfolding keysOf
   raised k [] a rs = none-met
   raised k (x ∷ xs) (one-above h a) (one-met r rs) = one-met (record { in-use = r .in-use; not-below = h; placed = r .placed }) (raised k xs a rs)
 
-  first-row : (x : Met) (xs : List Met) → Orderly n W low (x ∷ xs) → Right n W low x × Orderly n W (suc (x .key)) xs
+  first-row : (x : Met) (xs : List Met) → Orderly n W low (x ∷ xs) → InOrder n W low x × Orderly n W (suc (x .key)) xs
   unfolding keysOf
   first-row x xs o = go (o .each) (o .rising)
     where
-      go : Each (Right n W low) (x ∷ xs) → Increasing (x .key ∷ keysOf xs) → Right n W low x × Orderly n W (suc (x .key)) xs
+      go : Each (InOrder n W low) (x ∷ xs) → Increasing (x .key ∷ keysOf xs) → InOrder n W low x × Orderly n W (suc (x .key)) xs
       go (one-met r rs) (one-increasing a h) = (r, record { each = raised (x .key) xs a rs; rising = h })
 
   two-parts : (xs ys : List Met) → Orderly n W low (xs ++ ys) → Orderly n W low xs × Orderly n W low ys
@@ -161,26 +173,24 @@ module _ (n W low : ℕ) where
       (record { each = e .0; rising = i .0 }, record { each = e .1; rising = i .1 })
 
 module _ (rows : ℕ → Row) (n W : ℕ) where
-  -- what is met from the link of row i on side s
-  abbrev met-from : ℕ → ℕ → ℕ → ℕ → Side → List Met
-  met-from levels d path i s = met-by (met rows levels (suc d) (path * 2 + bitOf s)) (link (rows i) s)
-
-  met-row : (low levels d path i : ℕ) → Orderly n W low (met rows (suc levels) d path i)
-      → Right n W low (the-row d path i (key rows i)) × ((s : Side) → Orderly n W (suc (key rows i)) (met-from levels d path i s))
+  met-row :
+      (low levels d path i : ℕ) → Orderly n W low (met rows (suc levels) d path i)
+      → InOrder n W low (the-row d path i (key rows i)) × ((s : Side) → Orderly n W (suc (key rows i)) (met-from rows levels d path i s))
   unfolding met
   met-row low levels d path i o =
-      let f = first-row n W low (the-row d path i (key rows i)) (met-from levels d path i left ++ met-from levels d path i right) o in
-      let t = two-parts n W (suc (key rows i)) (met-from levels d path i left) (met-from levels d path i right) (f .1) in
+      let from : Side → List Met = met-from rows levels d path i in
+      let f = first-row n W low (the-row d path i (key rows i)) (from left ++ from right) o in
+      let t = two-parts n W (suc (key rows i)) (from left) (from right) (f .1) in
       (f .0, elim [ left ↦ t .0 | right ↦ t .1 ])
-
-  fits : (m d path low i : ℕ) → d + m ≡ W → Right n W low (the-row d path i (key rows i)) → Fitting m path low (key rows i)
-  fits m d path low i whole r =
-      let left-over : W - d ≡ m = omega arith in
-      record { not-below = r .not-below; on-path = rw left-over at (r .placed .bits) }
 
   too-deep : (low d path j : ℕ) → d + 0 ≡ W → Orderly n W low (met-by (met rows 1 (suc d) path) j) → j ≡ 0
   too-deep low d path zero whole o = refl
   too-deep low d path (suc j) whole o = absurd (omega (arith, met-row low 0 (suc d) path (suc j) o .0 .placed .shallow))
+
+  no-damage : (m d path low i : ℕ) → d + m ≡ W → InOrder n W low (the-row d path i (key rows i)) → ends-there m (rows i) ≡ true → NoDamage rows n m path low i
+  no-damage m d path low i whole r ends =
+      let left-over : W - d ≡ m = omega arith in
+      record { in-use = r .in-use; key-fits = record { not-below = r .not-below; on-path = rw left-over at (r .placed .bits) }; links-end = ends }
 
   -- where the rows that are met are as in a sound table, no damage is shown
   pub met-intact : (m d path low i : ℕ) → d + m ≡ W → Orderly n W low (met rows (suc (suc m)) d path i) → intact (unfolded rows n m path low i) ≡ true
@@ -188,22 +198,13 @@ module _ (rows : ℕ → Row) (n W : ℕ) where
   met-intact zero d path low i whole o =
       let r = met-row low 1 d path i o in
       let none-there : (s : Side) → link (rows i) s ≡ 0 = λ s. too-deep (suc (key rows i)) d (path * 2 + bitOf s) (link (rows i) s) whole (r .1 s) in
-      rw (shown-row rows n zero path low i (record {
-        in-use = r .0 .in-use;
-        key-fits = fits zero d path low i whole (r .0);
-        links-end = rw (none-there left, none-there right);
-      }))
+      intact-row rows n zero path low i (no-damage zero d path low i whole (r .0) (rw (none-there left, none-there right))) (λ s. refl)
   met-intact (suc m) d path low i whole o =
       let r = met-row low (suc (suc m)) d path i o in
-      let below : Side → ℕ → Tree = λ s. unfolded rows n m (path * 2 + bitOf s) (suc (key rows i)) in
-      let undamaged : (s : Side) (j : ℕ) → Orderly n W (suc (key rows i)) (met-by (met rows (suc (suc m)) (suc d) (path * 2 + bitOf s)) j) → intact (linked (below s) j) ≡ true =
-      λ s. elim [ zero ↦ λ o. refl | suc j ↦ met-intact m (suc d) (path * 2 + bitOf s) (suc (key rows i)) (suc j) (omega arith) ]
-      in
-      rw (
-        shown-row rows n (suc m) path low i (record { in-use = r .0 .in-use; key-fits = fits (suc m) d path low i whole (r .0); links-end = refl }),
-        undamaged left (link (rows i) left) (r .1 left),
-        undamaged right (link (rows i) right) (r .1 right),
-      )
+      let low′ : ℕ = suc (key rows i) in
+      intact-row rows n (suc m) path low i (no-damage (suc m) d path low i whole (r .0) refl)
+      (λ s. by-link (λ j. Orderly n W low′ (met-by (met rows (suc (suc m)) (suc d) (path * 2 + bitOf s)) j)) (unfolded rows n m (path * 2 + bitOf s) low′)
+      (λ k. met-intact m (suc d) (path * 2 + bitOf s) low′ (suc k) (omega arith)) (link (rows i) s) (r .1 s))
 
 -- a row that is met is met once at least
 met-at-least-once : (xs : List Met) → Each (λ x. 1 ≤ times (x .at) xs) xs

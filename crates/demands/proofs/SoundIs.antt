@@ -85,7 +85,16 @@ module _ (h : Header) (table : List ℕ) where
         each-row-once = each-once (numbers t) (shown-once (b .0)) (h .count) (shown-in-use (b .0)) (numbers-length t ∙ whole);
       }
 
-  -- and is sound
+  test-passes : intact (shown h table) ≡ true → size (shown h table) ≡ h .count → isSound h table ≡ true
+  unfolding isSound
+  test-passes undamaged whole = rw (undamaged, eq-eqb (size (shown h table)) (h .count) whole)
+
+  -- so to hold the set S it is enough to show no damage and to list S, if the count is right
+  pub held-by-listing : {S : List ℕ} → intact (shown h table) ≡ true → listing (shown h table) ≡ S → length S ≡ h .count → HoldsSet h table S
+  held-by-listing undamaged lists whole =
+      rw lists at (held-by-test (test-passes undamaged (sym (listing-length (shown h table)) ∙ ap length lists ∙ whole)))
+
+  -- a table that passes the test is sound
   sound-by-test : isSound h table ≡ true → Sound h table
   unfolding isSound Sound
   sound-by-test passed =
@@ -97,10 +106,6 @@ module _ (h : Header) (table : List ℕ) where
         increase = rw keys-met (s .increasing);
         in-place = proper-in-place (h .width) 0 (h .width) 0 0 t (omega arith) (pow-pos 0) (shown-proper undamaged);
       })
-
-  test-passes : intact (shown h table) ≡ true → size (shown h table) ≡ h .count → isSound h table ≡ true
-  unfolding isSound
-  test-passes undamaged whole = rw (undamaged, eq-eqb (size (shown h table)) (h .count) whole)
 
   sound-undamaged : Sound h table → intact (shown h table) ≡ true
   unfolding Sound shown intact
@@ -125,22 +130,28 @@ module _ (h : Header) (table : List ℕ) where
       (sym (numbers-length t) ∙ number-of-all (h .count) (shown-in-use undamaged) (λ i. sym (times-met i 0 0 t) ∙ met-once .each-once i))
 
 -- the words of a set of width W fit at the root
-pub set-fits : (W : ℕ) (S : List ℕ) → ((x : ℕ) → x ∈ S → x < 2 ^ W) → All (Fitting W 0 0) S
+set-fits : (W : ℕ) (S : List ℕ) → ((x : ℕ) → x ∈ S → x < 2 ^ W) → All (Fitting W 0 0) S
 set-fits W S below = all-of-each S (λ x there. record { not-below = omega arith; on-path = on-root-path W x .0 (below x there) })
 
+-- a table that shows the tree of a set shows no damage and lists the set
+module _ (h : Header) (table S : List ℕ) (rising : Increasing S) (below : (x : ℕ) → x ∈ S → x < 2 ^ h .width) (tree : unnumbered (shown h table) ≡ treeOf (h .width) S) where
+  pub tree-intact : intact (shown h table) ≡ true
+  tree-intact =
+      sym (intact-unnumbered (shown h table)) ∙ ap intact tree
+      ∙ proper-intact (h .width) 0 0 (treeOf (h .width) S) (set-proper (h .width) 0 0 S rising (set-fits (h .width) S below))
+
+  pub tree-listing : listing (shown h table) ≡ S
+  tree-listing =
+      sym (listing-unnumbered (shown h table)) ∙ ap listing tree ∙ set-listing (h .width) 0 0 S rising (set-fits (h .width) S below)
+
 module _ {h : Header} {table S : List ℕ} (s : HoldsSet h table S) where
-  -- the set of a table is what it lists
   listing-of-set : listing (shown h table) ≡ S
-  listing-of-set =
-      sym (listing-unnumbered (shown h table)) ∙ ap listing (s .tree)
-      ∙ set-listing (h .width) 0 0 S (s .increasing) (set-fits (h .width) S (s .below))
+  listing-of-set = tree-listing h table S (s .increasing) (s .below) (s .tree)
 
   -- a table that holds a set passes the test
   test-of-set : isSound h table ≡ true
   test-of-set =
-      test-passes h table
-      (sym (intact-unnumbered (shown h table)) ∙ ap intact (s .tree)
-      ∙ proper-intact (h .width) 0 0 (treeOf (h .width) S) (set-proper (h .width) 0 0 S (s .increasing) (set-fits (h .width) S (s .below))))
+      test-passes h table (tree-intact h table S (s .increasing) (s .below) (s .tree))
       (sym (listing-length (shown h table)) ∙ ap length listing-of-set ∙ s .number)
 
 pub sound-is : (h : Header) (table : List ℕ) → SoundIs h table
