@@ -130,7 +130,7 @@ module _ (h : Header) (table : List ℕ) where
       (sym (numbers-length t) ∙ number-of-all (h .count) (shown-in-use undamaged) (λ i. sym (times-met i 0 0 t) ∙ met-once .each-once i))
 
 -- the words of a set of width W fit at the root
-set-fits : (W : ℕ) (S : List ℕ) → ((x : ℕ) → x ∈ S → x < 2 ^ W) → All (Fitting W 0 0) S
+pub set-fits : (W : ℕ) (S : List ℕ) → ((x : ℕ) → x ∈ S → x < 2 ^ W) → All (Fitting W 0 0) S
 set-fits W S below = all-of-each S (λ x there. record { not-below = omega arith; on-path = on-root-path W x .0 (below x there) })
 
 -- a table that shows the tree of a set shows no damage and lists the set

@@ -4,7 +4,7 @@ use Prim.Native.Nat.{ℕ, _*_, _^_, _<_}
 use mathlib.Core.Path.{_≡_}
 use mathlib.Core.Logic.{_↔_}
 use mathlib.Core.Bool.{Bool, true}
-use mathlib.Core.List.{List}
+use mathlib.Core.List.{List, _++_}
 use lib.Dec.{ltb}
 use lib.ListN.{length}
 use Rattle.ordered.specs.Such.{if_then_else_}
@@ -41,8 +41,8 @@ pub record OneTree : Type 0 where
   -- so it is the only one
   pub one-set : {h : Header} {table S S′ : List ℕ} → HoldsSet h table S → HoldsSet h table S′ → S ≡ S′
 
--- and there is a table for every set of words of every width, with no more rows than words
+-- and for every set of words of every width there are such rows, whatever words follow them in the table
 abbrev pub EverySetHasATable : Type 0
 EverySetHasATable =
-    (W : ℕ) (S : List ℕ) → Increasing S → ((x : ℕ) → x ∈ S → x < 2 ^ W)
-    → (table : List ℕ) × (length table ≡ 3 * length S) × HoldsSet (record { width = W; count = length S }) table S
+    (W : ℕ) (S rest : List ℕ) → Increasing S → ((x : ℕ) → x ∈ S → x < 2 ^ W)
+    → (rows : List ℕ) × (length rows ≡ 3 * length S) × HoldsSet (record { width = W; count = length S }) (rows ++ rest) S
