@@ -1,23 +1,22 @@
--- The rows that are met from row 0 are those of the tree that is shown, where it shows no damage; and it shows none where the rows that are
--- met are as document 01 asks of a sound table.
+-- "The rows met from row 0 in the order row, left part, right part" are those of the tree that is shown, where it shows no damage; and it
+-- shows none where the rows that are met are as document 01 asks of a sound table.
 use Prim.Native.Nat.{ℕ, zero, suc, _+_, _*_, _-_, _/_, _^_, _≤_, _<_}
-use mathlib.Core.Path.{_≡_, refl, sym, ap, ap₂, _∙_}
-use mathlib.Core.Bool.{Bool, true, false, _&&_}
+use mathlib.Core.Path.{_≡_, refl, ap, ap₂, _∙_}
+use mathlib.Core.Bool.{Bool, true, false}
 use mathlib.Core.List.{List, [], _∷_, _++_, map, map-append}
 use native.Mathlib.Nat.{div-lt-iff-lt-mul}
 use native.Mathlib.Omega.{arith}
-use lib.Dec.{ltb, leb, eqb}
+use lib.Dec.{ltb, eqb}
 use lib.Pow.{pow-pos, pow-add}
 use borrow.Author.Tests.{ltb-true, eqb-true, eq-eqb}
-use Rattle.ordered.specs.Such.{if_then_else_}
 use Rattle.ordered.specs.Word.{Side, left, right, bitOf}
-use Rattle.ordered.specs.Dictionary.{Above, none-above, one-above, Increasing, none-increasing, one-increasing}
-use Rattle.ordered.specs.Tree.{Tree, none, row, damaged, Entry, part, listing, intact}
-use Rattle.ordered.specs.Proper.{Fitting, Proper-row, Proper}
+use Rattle.ordered.specs.Dictionary.{Above, one-above, Increasing, one-increasing}
+use Rattle.ordered.specs.Tree.{Tree, none, row, damaged, part, listing, intact}
+use Rattle.ordered.specs.Proper.{Proper}
 use Rattle.ordered.proofs.Lists.{increasing-parts}
 use Rattle.pretree.specs.declared.Row.{Row}
 use Rattle.pretree.specs.Table.{link}
-use Rattle.pretree.specs.Unfold.{ends-there, linked, unfolded}
+use Rattle.pretree.specs.Unfold.{ends-there, unfolded}
 use Rattle.pretree.specs.Sound.{Met, met-by, met, times, keysOf, Each, none-met, one-met, InPlace, SoundRows}
 use Rattle.demands.specs.Numbers.{numbers, often}
 use Rattle.demands.proofs.Unfolding.{both, along-link, by-link, key, hanging, NoDamage, intact-row, Opened, opened}

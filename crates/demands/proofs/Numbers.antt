@@ -1,9 +1,9 @@
--- The laws of row numbers. Numbers below n of which none stands twice are at most n, and where they are n, each number below n stands once;
--- and a tree keeps all but its numbers when it is given other ones, or none.
+-- The laws of row numbers, for "the rows 0 to count−1, each once". Numbers below n of which none stands twice are at most n, and where they
+-- are n, each number below n stands once; and a tree keeps all but its numbers when it is given other ones, or none.
 use Prim.Native.Nat.{ℕ, zero, suc, _+_, _≤_, _<_}
-use mathlib.Core.Path.{_≡_, refl, sym, ap, ap₂, _∙_}
+use mathlib.Core.Path.{_≡_, refl, ap, ap₂, _∙_}
 use mathlib.Core.Bool.{Bool, true, false, _&&_}
-use mathlib.Core.List.{List, [], _∷_, _++_, map, map-append}
+use mathlib.Core.List.{List, [], _∷_, map, map-append}
 use mathlib.Core.Logic.{⊎-elim}
 use native.Mathlib.Nat.{eq-or-lt-of-le, le-of-suc-le-suc, not-suc-le-zero}
 use native.Mathlib.Omega.{arith}
@@ -14,7 +14,6 @@ use Rattle.ordered.specs.Such.{if_then_else_}
 use Rattle.ordered.specs.Dictionary.{Above, none-above, one-above, Increasing, none-increasing, one-increasing}
 use Rattle.ordered.specs.Tree.{Tree, none, row, damaged, listing, size, intact, unnumbered}
 use Rattle.ordered.proofs.Parts.{All, none-all, one-all}
-use Rattle.ordered.proofs.OneTree.{listing-length}
 use Rattle.demands.specs.Numbers.{numbers, often, renamed}
 
 -- how often the numbers below n stand in a list, all together

@@ -1,7 +1,6 @@
 -- What it is to be sound, and that a set has one tree: the proofs of specs/SoundIs.antt.
 use Prim.Native.Nat.{ℕ, _^_, _<_}
 use mathlib.Core.Path.{_≡_, sym, ap, _∙_}
-use mathlib.Core.Logic.{_↔_}
 use mathlib.Core.Bool.{true}
 use mathlib.Core.List.{List}
 use native.Mathlib.Omega.{arith}
@@ -15,7 +14,7 @@ use Rattle.ordered.proofs.Parts.{All, all-of-each, each-of-all}
 use Rattle.ordered.proofs.OneTree.{keys-fit, keys-rise, one-tree, set-proper, set-listing, proper-intact, listing-length}
 use Rattle.pretree.specs.declared.Header.{Header}
 use Rattle.pretree.specs.Unfold.{shown}
-use Rattle.pretree.specs.Sound.{Sound, isSound}
+use Rattle.pretree.specs.Sound.{isSound}
 use Rattle.demands.specs.SoundIs.{HoldsSet, SoundIs, OneTree}
 use Rattle.demands.proofs.Numbers.{intact-unnumbered, listing-unnumbered}
 use Rattle.demands.proofs.Tested.{shown-proper, test-passes, test-says, each-row-once, sound-tested}

@@ -1,19 +1,18 @@
--- The laws of what a table shows, where it shows no damage: the tree is proper, its rows are in use and different, it depends on its own rows
--- alone, and rows that take other numbers change row numbers alone.
+-- The laws of what a table shows, where it shows no damage: the tree is proper, its rows are in use ("Rows in use are 0 to count−1") and
+-- different, it depends on its own rows alone, and rows that take other numbers change row numbers alone.
 use Prim.Native.Nat.{ℕ, zero, suc, _+_, _*_, _/_, _^_, _≤_, _<_}
-use mathlib.Core.Path.{_≡_, refl, sym, ap, ap₂, _∙_}
+use mathlib.Core.Path.{_≡_, refl, sym, ap, _∙_}
 use mathlib.Core.Bool.{Bool, true, false, _&&_, false≢true}
-use mathlib.Core.List.{List, [], _∷_, _++_, map, map-append}
-use mathlib.Core.List.{List·Memᴰ, List·Memᴰ·head, List·Memᴰ·tail, Memᴰ·append-left, Memᴰ·append-right}
+use mathlib.Core.List.{map, map-append}
+use mathlib.Core.List.{List·Memᴰ·head, List·Memᴰ·tail, Memᴰ·append-left, Memᴰ·append-right}
 use native.Mathlib.Omega.{arith}
 use lib.Dec.{ltb, leb, eqb}
 use borrow.Author.Tests.{ltb-true, leb-true, eqb-true, lt-ltb, le-leb, eq-eqb}
 use Rattle.ordered.specs.Such.{if_then_else_}
 use Rattle.ordered.specs.Word.{Side, left, right, bitOf}
 use Rattle.ordered.specs.Said.{_∈_}
-use Rattle.ordered.specs.Dictionary.{Increasing}
-use Rattle.ordered.specs.Tree.{Tree, none, row, damaged, part, listing, size, intact, unnumbered}
-use Rattle.ordered.specs.Proper.{Fitting, Proper-row, Proper}
+use Rattle.ordered.specs.Tree.{Tree, none, row, damaged, part, listing, size, intact}
+use Rattle.ordered.specs.Proper.{Fitting, Proper}
 use Rattle.ordered.proofs.Parts.{All, none-all, one-all, all-append}
 use Rattle.ordered.proofs.OneTree.{keys-rise}
 use Rattle.pretree.specs.declared.Row.{Row}

@@ -1,25 +1,29 @@
--- There is a sound table for every set: one in which the rows stand in the order of the listing.
+-- There is a sound table for every set: one in which the rows stand in the order of the listing, "its key, then its left part, then its
+-- right part".
 use Prim.Native.Nat.{ℕ, zero, suc, _+_, _*_, _^_, _≤_, _<_}
 use mathlib.Core.Path.{_≡_, refl, sym, ap, _∙_}
-use mathlib.Core.Bool.{Bool, true, false, false≢true}
+use mathlib.Core.Logic.{_⊎_, inl, inr}
+use mathlib.Core.Bool.{true, false≢true}
 use mathlib.Core.List.{List, [], _∷_, _++_, append-assoc}
+use mathlib.Core.List.{List·Memᴰ·head, List·Memᴰ·tail, Memᴰ·append-left, Memᴰ·append-right}
 use native.Mathlib.Omega.{arith}
-use lib.Dec.{eqb, eqb·suc-zero}
-use lib.ListN.{length, getD, length-append}
+use lib.Dec.{eqb·suc-zero}
+use lib.ListN.{length, length-append}
 use lib.Seq.{getD-append-seam, getD-append-add}
 use Rattle.ordered.specs.Such.{if_then_else_}
 use Rattle.ordered.specs.Word.{Side, left, right, bitOf}
 use Rattle.ordered.specs.Dictionary.{Increasing}
 use Rattle.ordered.specs.Said.{_∈_}
-use Rattle.ordered.specs.Tree.{Tree, none, row, damaged, Entry, part, exists, listing, size, intact, unnumbered, going, treeOf}
-use Rattle.ordered.specs.Proper.{Fitting, Proper-row, Proper}
-use Rattle.ordered.proofs.OneTree.{set-proper, set-listing, set-unnumbered, listing-length}
+use Rattle.ordered.specs.Tree.{Tree, none, row, damaged, Entry, part, exists, listing, size, intact, unnumbered, treeOf}
+use Rattle.ordered.specs.Proper.{Fitting, Proper}
+use Rattle.ordered.proofs.Parts.{All, none-all, one-all, all-append, each-of-all}
+use Rattle.ordered.proofs.OneTree.{set-proper, set-listing, set-unnumbered, proper-intact, listing-length}
 use Rattle.pretree.specs.declared.Header.{Header}
 use Rattle.pretree.specs.declared.Row.{Row}
 use Rattle.pretree.specs.Table.{rowAt, link}
 use Rattle.pretree.specs.Unfold.{ends-there, linked, unfolded, shown}
-use Rattle.demands.specs.SoundIs.{HoldsSet, EverySetHasATable}
-use Rattle.demands.proofs.Unfolding.{key, hanging, NoDamage, shown-row}
+use Rattle.demands.specs.SoundIs.{EverySetHasRows}
+use Rattle.demands.proofs.Unfolding.{both, key, hanging, shown-row}
 use Rattle.demands.proofs.SoundIs.{set-fits, tree-intact, tree-listing, held-by-listing}
 
 -- below a row with number k and left part l, the number of the last row before the part on side s, and that of the part's first row
@@ -161,12 +165,44 @@ table-shows zero (x ∷ xs) rest rising below = rw eqb·suc-zero (root-shows zer
 table-shows (suc W) [] rest rising below = refl
 table-shows (suc W) (x ∷ xs) rest rising below = rw eqb·suc-zero (root-shows (suc W) (x ∷ xs) rest rising below refl)
 
-pub every-set-has-a-table : EverySetHasATable
-every-set-has-a-table W S rest rising below =
+-- a word of a set's rows is a key or the number of a row
+module _ (W n : ℕ) where
+  abbrev Word : ℕ → Type 0
+  Word w = (w < 2 ^ W) ⊎ (w < n)
+
+  link-small : (k : ℕ) (t : Tree) → intact t ≡ true → suc k + size t ≤ n → link-to (suc k) t < n
+  unfolding intact size
+  link-small k none whole room = omega arith
+  link-small k (row i e l r) whole room = omega arith
+  link-small k damaged whole room = absurd (false≢true whole)
+
+  written-words : (k : ℕ) (t : Tree) → intact t ≡ true → ((x : ℕ) → x ∈ listing t → x < 2 ^ W) → k + size t ≤ n → All Word (written k t)
+  unfolding written listing intact size
+  written-words k none whole small room = none-all
+  written-words k (row i e l r) whole small room =
+      let b = both (intact l) (intact r) whole in
+      one-all (inl (small (e .key) (List·Memᴰ·head refl)))
+      (one-all (inr (link-small k l (b .0) (omega arith)))
+      (one-all (inr (link-small (k + size l) r (b .1) (omega arith)))
+      (all-append
+      (written-words (place left k l) l (b .0) (λ x there. small x (List·Memᴰ·tail (Memᴰ·append-left (listing r) there))) (omega arith))
+      (written-words (place right k l) r (b .1) (λ x there. small x (List·Memᴰ·tail (Memᴰ·append-right (listing l) there))) (omega arith)))))
+  written-words k damaged whole small room = none-all
+
+pub every-set-has-rows : EverySetHasRows
+every-set-has-rows W S rest rising below =
     let h : Header = record { width = W; count = length S } in
     let table : List ℕ = written 0 (treeOf W S) ++ rest in
-    let tree : unnumbered (shown h table) ≡ treeOf W S = table-shows W S rest rising below in (
-      written 0 (treeOf W S),
-      written-length 0 (treeOf W S) ∙ ap (λ n. 3 * n) (set-size W S rising below),
-      held-by-listing h table (tree-intact h table S rising below tree) (tree-listing h table S rising below tree) refl,
-    )
+    let fits : All (Fitting W 0 0) S = set-fits W S below in
+    let tree : unnumbered (shown h table) ≡ treeOf W S = table-shows W S rest rising below in
+    record {
+      rows = written 0 (treeOf W S);
+      as-many = written-length 0 (treeOf W S) ∙ ap (λ n. 3 * n) (set-size W S rising below);
+      words =
+          λ w there.
+          each-of-all
+          (written-words W (length S) 0 (treeOf W S) (proper-intact W 0 0 (treeOf W S) (set-proper W 0 0 S rising fits))
+          (λ x. rw (← set-listing W 0 0 S rising fits) at (below x)) (omega (arith, set-size W S rising below)))
+          there;
+      held = held-by-listing h table (tree-intact h table S rising below tree) (tree-listing h table S rising below tree) refl;
+    }

@@ -1,6 +1,5 @@
 -- The row numbers of a tree: which rows stand in it, how often, and the same tree with other numbers.
-use Prim.Native.Nat.{ℕ, zero, suc, _+_}
-use mathlib.Core.Bool.{Bool, true, false}
+use Prim.Native.Nat.{ℕ, _+_}
 use mathlib.Core.List.{List, [], _∷_, _++_}
 use lib.Dec.{eqb}
 use Rattle.ordered.specs.Such.{if_then_else_}

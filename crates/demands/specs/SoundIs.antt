@@ -2,8 +2,8 @@
 -- and a set has one such tree.
 use Prim.Native.Nat.{ℕ, _*_, _^_, _<_}
 use mathlib.Core.Path.{_≡_}
-use mathlib.Core.Logic.{_↔_}
-use mathlib.Core.Bool.{Bool, true}
+use mathlib.Core.Logic.{_↔_, _⊎_}
+use mathlib.Core.Bool.{true}
 use mathlib.Core.List.{List, _++_}
 use lib.Dec.{ltb}
 use lib.ListN.{length}
@@ -41,8 +41,14 @@ pub record OneTree : Type 0 where
   -- so it is the only one
   pub one-set : {h : Header} {table S S′ : List ℕ} → HoldsSet h table S → HoldsSet h table S′ → S ≡ S′
 
--- and for every set of words of every width there are such rows, whatever words follow them in the table
-abbrev pub EverySetHasATable : Type 0
-EverySetHasATable =
-    (W : ℕ) (S rest : List ℕ) → Increasing S → ((x : ℕ) → x ∈ S → x < 2 ^ W)
-    → (rows : List ℕ) × (length rows ≡ 3 * length S) × HoldsSet (record { width = W; count = length S }) (rows ++ rest) S
+-- rows that hold the set S, whatever words follow them in the table
+pub record RowsOf (W : ℕ) (S rest : List ℕ) : Type 0 where
+  pub rows : List ℕ
+  pub as-many : length rows ≡ 3 * length S
+  -- each of their words is a word of the width or the number of a row
+  pub words : (w : ℕ) → w ∈ rows → (w < 2 ^ W) ⊎ (w < length S)
+  pub held : HoldsSet (record { width = W; count = length S }) (rows ++ rest) S
+
+-- There are such rows for every set of words of every width, so no promise about sound tables speaks of nothing
+abbrev pub EverySetHasRows : Type 0
+EverySetHasRows = (W : ℕ) (S rest : List ℕ) → Increasing S → ((x : ℕ) → x ∈ S → x < 2 ^ W) → RowsOf W S rest
