@@ -1,5 +1,6 @@
 pub mod Numbers
 pub mod Unfolding
+pub mod Links
 pub mod Meeting
 pub mod Tested
 pub mod SoundIs

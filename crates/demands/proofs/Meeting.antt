@@ -6,9 +6,9 @@ use mathlib.Core.Bool.{Bool, true, false}
 use mathlib.Core.List.{List, [], _∷_, _++_, map, map-append}
 use native.Mathlib.Nat.{div-lt-iff-lt-mul}
 use native.Mathlib.Omega.{arith}
-use lib.Dec.{ltb, eqb}
+use lib.Dec.{ltb}
 use lib.Pow.{pow-pos, pow-add}
-use borrow.Author.Tests.{ltb-true, eqb-true, eq-eqb}
+use borrow.Author.Tests.{ltb-true, eq-eqb}
 use Rattle.ordered.specs.Word.{Side, left, right, bitOf}
 use Rattle.ordered.specs.Dictionary.{Above, one-above, Increasing, one-increasing}
 use Rattle.ordered.specs.Tree.{Tree, none, row, damaged, part, listing, intact}
@@ -19,7 +19,7 @@ use Rattle.pretree.specs.Table.{link}
 use Rattle.pretree.specs.Unfold.{ends-there, unfolded}
 use Rattle.pretree.specs.Sound.{Met, met-by, met, times, keysOf, Each, none-met, one-met, InPlace, SoundRows}
 use Rattle.demands.specs.Numbers.{numbers, often}
-use Rattle.demands.proofs.Unfolding.{both, along-link, by-link, key, hanging, NoDamage, intact-row, Opened, opened}
+use Rattle.demands.proofs.Unfolding.{no-link, along-link, by-link, key, hanging, NoDamage, intact-row, Opened, opened}
 
 each-map : {P Q : Met → Type 0} {xs : List Met} → ((x : Met) → P x → Q x) → Each P xs → Each Q xs
 each-map f none-met = none-met
@@ -88,11 +88,6 @@ module _ (W d m path k : ℕ) (whole : d + m ≡ W) (short : path < 2 ^ d) (on-p
         bits = rw left-over on-path;
         shallow = omega arith;
       }
-
--- with no bit left both links are none
-no-link : (r : Row) → ends-there 0 r ≡ true → (s : Side) → link r s ≡ 0
-no-link r h left = eqb-true (r .left) 0 (both (eqb (r .left) 0) (eqb (r .right) 0) h .0)
-no-link r h right = eqb-true (r .right) 0 (both (eqb (r .left) 0) (eqb (r .right) 0) h .1)
 
 longer : (d path : ℕ) (s : Side) → path < 2 ^ d → path * 2 + bitOf s < 2 ^ suc d
 longer d path left h = omega arith

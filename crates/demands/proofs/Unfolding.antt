@@ -35,6 +35,11 @@ unfolding Proper
 none-proper zero path low = tt
 none-proper (suc m) path low = tt
 
+-- with no bit left both links are none
+pub no-link : (r : Row) → ends-there 0 r ≡ true → (s : Side) → link r s ≡ 0
+no-link r h left = eqb-true (r .left) 0 (both (eqb (r .left) 0) (eqb (r .right) 0) h .0)
+no-link r h right = eqb-true (r .right) 0 (both (eqb (r .left) 0) (eqb (r .right) 0) h .1)
+
 -- what holds of an empty link, and of what a link to a row shows, holds of what a link shows
 pub along-link :
     (P : ℕ → Tree → Type 0) (f : ℕ → Tree) → P 0 none → ((k : ℕ) → intact (f (suc k)) ≡ true → P (suc k) (f (suc k)))
@@ -205,9 +210,7 @@ module _ (σ : ℕ → ℕ) (none-stays : σ 0 ≡ 0) (none-else : (j : ℕ) →
   relinked-side r right = refl
 
   relinked-ends : (m : ℕ) (r : Row) → ends-there m r ≡ true → ends-there m (relinked σ r) ≡ true
-  relinked-ends zero r h =
-      let b = both (eqb (r .left) 0) (eqb (r .right) 0) h in
-      rw (eqb-true (r .left) 0 (b .0), eqb-true (r .right) 0 (b .1), none-stays)
+  relinked-ends zero r h = rw (no-link r h left, no-link r h right, none-stays)
   relinked-ends (suc m) r h = refl
 
   module _ (m path low i : ℕ) where
