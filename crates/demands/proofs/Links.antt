@@ -11,7 +11,7 @@ use borrow.Author.Tests.{eqb-true, eqb-false, eq-eqb, ne-eqb}
 use Rattle.ordered.specs.Such.{if_then_else_}
 use Rattle.ordered.specs.Word.{Side, left, right, other, bitOf}
 use Rattle.ordered.specs.Said.{_∈_}
-use Rattle.ordered.specs.Tree.{Tree, none, intact}
+use Rattle.ordered.specs.Tree.{Tree, intact}
 use Rattle.ordered.proofs.Parts.{each-of-all}
 use Rattle.pretree.specs.declared.Row.{Row}
 use Rattle.pretree.specs.Table.{link}
