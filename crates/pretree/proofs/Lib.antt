@@ -5,6 +5,9 @@ pub mod Unfolding
 pub mod Walking
 pub mod Seeking
 pub mod Ended
+pub mod Resuming
+pub mod Pushing
+pub mod Adding
 pub mod Found
 pub mod SoundTest
 pub mod Starred

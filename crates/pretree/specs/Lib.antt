@@ -9,5 +9,7 @@ pub mod Add
 pub mod Del
 pub mod Whole
 pub mod Walk
+pub mod Resume
+pub mod Push
 pub mod Found
 pub mod Starred
