@@ -1,10 +1,14 @@
 pub mod Tests
+pub mod Writing
 pub mod Checks
 pub mod Unfolding
 pub mod Walking
 pub mod Seeking
 pub mod Falling
 pub mod Ended
+pub mod Resuming
+pub mod Pushing
+pub mod Adding
 pub mod Found
 pub mod Neighbours
 pub mod Nearest

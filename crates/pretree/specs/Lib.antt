@@ -10,6 +10,8 @@ pub mod Del
 pub mod Whole
 pub mod Part
 pub mod Walk
+pub mod Resume
+pub mod Push
 pub mod Found
 pub mod Gap
 pub mod Starred
