@@ -1,4 +1,5 @@
 pub mod Tests
+pub mod Writing
 pub mod Checks
 pub mod Unfolding
 pub mod Walking

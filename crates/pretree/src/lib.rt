@@ -6,6 +6,7 @@ mod find;
 mod seek;
 mod table;
 mod walk;
+mod write;
 
 ghost use mathlib.Core.Path.{_≡_};
 ghost use Rattle.pretree.specs.Reply.{fresh};
