@@ -5,7 +5,9 @@ pub mod Unfolding
 pub mod Walking
 pub mod Seeking
 pub mod Falling
+pub mod Raising
 pub mod Ended
 pub mod Found
+pub mod Erasing
 pub mod SoundTest
 pub mod Starred

@@ -10,4 +10,5 @@ pub mod Del
 pub mod Whole
 pub mod Walk
 pub mod Found
+pub mod Erased
 pub mod Starred
