@@ -1,22 +1,22 @@
 -- From the walks of `del` to what it answers and leaves: the stretch below k's row, the way of the last row, and the outcome.
-use Prim.Native.Nat.{ℕ, zero, suc, pred, _+_, _*_, _-_, _/_, _%_, _^_, _≤_, _<_}
-use mathlib.Core.Path.{_≡_, refl, sym, ap, _∙_, subst}
+use Prim.Native.Nat.{ℕ, zero, suc, pred, _-_, _%_, _≤_, _<_}
+use mathlib.Core.Path.{_≡_, refl, sym, _∙_, subst}
 use mathlib.Core.Bool.{Bool, true, false, not, _&&_, _||_, true≢false}
-use mathlib.Core.List.{List, [], _∷_, _++_}
+use mathlib.Core.List.{List}
 use native.Mathlib.Nat.{le-trans, lt-of-lt-of-le}
 use native.Mathlib.Omega.{arith}
-use lib.Dec.{ltb, leb, eqb}
+use lib.Dec.{ltb, eqb}
 use lib.ListN.{length, length-append}
-use borrow.Author.Tests.{ltb-true, ltb-false, lt-ltb, le-ltb, eq-eqb, ne-eqb, eqb-true}
-use Rattle.ordered.specs.Such.{if_then_else_, Perhaps, no-such, such, first-of, only-if, last-such, anything}
+use borrow.Author.Tests.{ltb-true, ltb-false, lt-ltb, eq-eqb, ne-eqb}
+use Rattle.ordered.specs.Such.{if_then_else_, Perhaps, no-such, such, first-of, only-if, anything}
 use Rattle.ordered.specs.Word.{Side, left, right, sideOf}
 use Rattle.ordered.specs.Tree.{Tree, none, row, damaged, part, exists}
 use Rattle.ordered.specs.Way.{Way, Step, Rule, way, joined, broken, isDamaged, following, down}
 use Rattle.ordered.specs.Way as Ways
 use Rattle.ordered.specs.Reading.{keyAt}
-use Rattle.ordered.specs.Change.{Erasing, erasing, erasing-by, ends-at, isThere, numberAt, entryAt, above-end}
+use Rattle.ordered.specs.Change.{Erasing, erasing, erasing-by, ends-at, isThere, numberAt, above-end}
 use Rattle.ordered.proofs.Parts.{All, none-all, one-all, all-append, If-such, last-such-one, last-such-append}
-use Rattle.ordered.proofs.Ways.{along, Onward, and-true}
+use Rattle.ordered.proofs.Ways.{along, and-true}
 use Rattle.pretree.specs.declared.Header.{Header}
 use Rattle.pretree.specs.declared.Row.{Row}
 use Rattle.pretree.specs.declared.Answer.the-variants.{Done, Damage, NoSuchWord}
@@ -26,13 +26,13 @@ use Rattle.pretree.specs.declared.walk.Walk.{Walk}
 use Rattle.pretree.specs.declared.erase.Hook.{Hook}
 use Rattle.pretree.specs.declared.erase.Hole.{Hole}
 use Rattle.pretree.specs.declared.erase.Move.{Move}
-use Rattle.pretree.specs.Table.{capacity, rowAt, link, withRow, cleared}
+use Rattle.pretree.specs.Table.{capacity, rowAt, withRow, cleared}
 use Rattle.pretree.specs.Unfold.{judged, linked, unfolded, shown}
 use Rattle.pretree.specs.Reply.{wrong-header, too-wide, refused, answered}
-use Rattle.pretree.specs.Walk.{isOn, rowsRead, endRead, treeAt, to-come, below, stepAt, remembered, standing, seeking, Goes, Placed, Walked, Begun, Fell}
-use Rattle.pretree.specs.Add.{Outcome, taking, hooking}
+use Rattle.pretree.specs.Walk.{rowsRead, treeAt, to-come, below, stepAt, remembered, seeking, Goes, Placed, Walked, Begun, Fell}
+use Rattle.pretree.specs.Add.{hooking}
 use Rattle.pretree.specs.Del.{secondWay, astray, moving, shrunk, delOutcome}
-use Rattle.pretree.specs.Erased.{isDamage, endsAt, again, hookOf, hooked, Hooks, Hangs, raising, Rises, Hollow, Moves, Within, filled, emptied}
+use Rattle.pretree.specs.Erased.{isDamage, endsAt, restarted, hookOf, hooked, Hooks, Hangs, Hollow, Moves, Within, filled, emptied}
 use Rattle.pretree.proofs.Checks.{right-header}
 use Rattle.pretree.proofs.Unfolding.{is-damaged, is-row}
 use Rattle.pretree.proofs.Ended.{endPart, Gone, all-gone, rows-gone}
@@ -170,7 +170,7 @@ module _ (h : Header) (table : List ℕ) (fine : wrong-header h table ≡ false)
     pub some-rows : 0 < h .count
     some-rows = rw (← gone .walking .same-count) (omega (arith, placed .0))
 
-    pub begun : Begun table (again w)
+    pub begun : Begun table (restarted w)
     begun =
         record {
           few-bits = le-trans (gone .walking .fits) (right-header h table fine .at-most-32);
@@ -191,7 +191,7 @@ module _ (h : Header) (table : List ℕ) (fine : wrong-header h table ≡ false)
     bits-are : whole .bits ≡ w .bits
     bits-are = rw (following-is k) (sym (goes .bits))
 
-    module _ (s : Walk) (fell : Fell rows (down left) (again w) s) where
+    module _ (s : Walk) (fell : Fell rows (down left) (restarted w) s) where
       abbrev below-way : Way
       below-way = way (down left) (whole .bits) (whole .end)
 
@@ -310,35 +310,26 @@ module _ (h : Header) (table : List ℕ) (fine : wrong-header h table ≡ false)
       record { needed = rw (eq-eqb hole last e); astray = refl; rows = refl; hook = λ never. absurd (true≢false (sym never)) }
 
   module _ (w : Walk) (gone : Walked (rowAt table) (seeking last-key last-key) (h .width) (h .count) (shown h table) w) where
-    astray-is : (broken (secondWay h table) || astray h table (secondWay h table)) ≡ not (endsAt (w .row) last (w .stage))
+    abbrev goes-astray : Bool
+    goes-astray = not (endsAt last-key (w .key) (w .stage) && eqb (w .row) last)
+
+    astray-is : (broken (secondWay h table) || astray h table (secondWay h table)) ≡ goes-astray
     unfolding secondWay astray
     astray-is =
         rw (broken-is h table fine last-key w gone, ends-is h table fine last-key w gone)
-        (rw (following-is last-key, at-end h table fine last-key w gone .end) (by-stage (w .stage) (gone .walking .placed)))
+        (rw (following-is last-key, at-end h table fine last-key w gone .end) (by-stage (w .stage)))
       where
-        by-number : (a b : Bool) → (b ≡ true → a ≡ true) → not (a && b) ≡ not b
-        by-number true b same = refl
-        by-number false true same = absurd (true≢false (sym (same refl)))
-        by-number false false same = refl
-
-        by-stage : (stage : Stage) → Placed (rowAt table) w stage
+        by-stage : (stage : Stage)
             → (isDamage stage || not (endsAt last-key (w .key) stage && eqb (numberAt (end-part h table fine last-key w gone stage)) last))
-            ≡ not (endsAt (w .row) last stage)
-        by-stage On p = refl
-        by-stage AtNone p = refl
-        by-stage AtRow p =
-            by-number (eqb last-key (w .key)) (eqb (w .row) last)
-            (λ e. eq-eqb last-key (w .key) (sym (p .2 ∙ ap (λ (i : ℕ). rowAt table i .entry .key) (eqb-true (w .row) last e))))
-        by-stage AtDamage p = refl
+            ≡ not (endsAt last-key (w .key) stage && eqb (w .row) last)
+        by-stage On = refl
+        by-stage AtNone = refl
+        by-stage AtRow = refl
+        by-stage AtDamage = refl
 
     pub last-moves : (hole : ℕ) → (hole ≡ last → ⊥)
         → Moves h table hole
-        (record {
-          needed = true;
-          astray = not (endsAt (w .row) last (w .stage));
-          hook = hookOf w (h .width);
-          rows = rowsRead w (h .width);
-        })
+        (record { needed = true; astray = goes-astray; hook = hookOf w (h .width); rows = rowsRead w (h .width) })
     unfolding secondWay
     last-moves hole apart =
         record {

@@ -1,19 +1,19 @@
 -- "each row taking the key below": what a stretch takes is what its rows, one by one, take; and a turn of the loop takes the first.
 use Prim.Native.Nat.{ℕ, zero, suc, _+_, _*_, _-_, _/_, _^_, _≤_, _<_}
-use mathlib.Core.Path.{_≡_, refl, sym, ap, _∙_, subst}
-use mathlib.Core.Bool.{Bool, true, false, not, _&&_, true≢false}
+use mathlib.Core.Path.{_≡_, refl, sym, _∙_, subst}
+use mathlib.Core.Bool.{Bool, true, false, not, true≢false}
 use mathlib.Core.List.{List, [], _∷_}
 use native.Mathlib.Nat.{le-trans, le-refl, le-of-lt, lt-of-lt-of-le, pos-of-ne-zero}
 use native.Mathlib.Omega.{arith}
 use lib.Dec.{ltb, leb, eqb}
 use lib.ListN.{length, length-set}
-use borrow.Author.Tests.{ltb-true, leb-true, eqb-true, eqb-false}
+use borrow.Author.Tests.{ltb-true, leb-true, eqb-false}
 use Rattle.ordered.specs.Such.{if_then_else_}
 use Rattle.ordered.specs.Word.{Side, left, right, bitOf}
-use Rattle.ordered.specs.Tree.{Tree, none, row, damaged, Entry, part, exists}
-use Rattle.ordered.specs.Way.{Way, Step, Rule, way, ending, passing, down, isDamaged, stop, to}
-use Rattle.ordered.specs.Change.{Take, raised, numberAt, entryAt}
-use Rattle.ordered.proofs.Ways.{along, At-end, Onward, Stops, and-true}
+use Rattle.ordered.specs.Tree.{Tree, row, damaged, Entry, part, exists}
+use Rattle.ordered.specs.Way.{Way, Step, way, down, isDamaged, to}
+use Rattle.ordered.specs.Change.{raised, entryAt}
+use Rattle.ordered.proofs.Ways.{along, At-end, Onward, and-true}
 use Rattle.pretree.specs.declared.Row.{Row}
 use Rattle.pretree.specs.declared.walk.Turn.the-variants.{Stop, Left, Right}
 use Rattle.pretree.specs.Table.{capacity, rowAt, link, withKey}
@@ -21,7 +21,7 @@ use Rattle.pretree.specs.Unfold.{judged, linked, unfolded}
 use Rattle.pretree.specs.Walk.{turnOf, below, downTurn}
 use Rattle.pretree.specs.Add.{taking}
 use Rattle.pretree.specs.Erased.{beneath, raising, Rises}
-use Rattle.pretree.proofs.Unfolding.{is-damaged, is-row, path-in-key}
+use Rattle.pretree.proofs.Unfolding.{is-damaged, is-row}
 use Rattle.pretree.proofs.Falling.{down-says}
 use Rattle.pretree.proofs.Writing.{other-row}
 

@@ -34,8 +34,8 @@ endsAt a b AtRow = eqb a b
 endsAt a b AtDamage = false
 
 -- the walk wants the row at which it ended, with nothing remembered aside
-abbrev pub again : Walk → Walk
-again w =
+abbrev pub restarted : Walk → Walk
+restarted w =
     record {
       count = w .count;
       row = w .row;

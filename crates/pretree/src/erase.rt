@@ -16,7 +16,7 @@ use crate::write::put_link;
 use crate::write::put_row;
 ghost use mathlib.Core.Path.{_≡_};
 ghost use mathlib.Core.Bool.{true, false};
-ghost use Prim.Native.Nat.{_≤_, _<_};
+ghost use Prim.Native.Nat.{_<_};
 ghost use Rattle.ordered.specs.Change.{erasing};
 ghost use Rattle.pretree.specs.Table.{capacity, rowAt};
 ghost use Rattle.pretree.specs.Unfold.{shown};
@@ -24,7 +24,7 @@ ghost use Rattle.pretree.specs.Reply.{wrong-header, too-wide};
 ghost use Rattle.pretree.specs.Walk.{seeking, Walked};
 ghost use Rattle.pretree.specs.Add.{taking};
 ghost use Rattle.pretree.specs.Del.{delOutcome};
-ghost use Rattle.pretree.specs.Erased.{isDamage, endsAt, again, hookOf, hooked, Hangs, beneath, raising, Rises, Hollow, Moves, Within, filled, emptied};
+ghost use Rattle.pretree.specs.Erased.{isDamage, endsAt, restarted, hookOf, hooked, Hangs, beneath, raising, Rises, Hollow, Moves, Within, filled, emptied};
 
 // Where the end of a way is linked: the row above it, and the side to which the way turned there. The root is linked nowhere.
 pub struct Hook {
@@ -91,7 +91,7 @@ impl Header {
         ensures reply { λ r. ⌜ r ≡ delOutcome self (now (table .entry)) word .reply ⌝ }
         ensures table { λ r. ⌜ now (table .exit) ≡ delOutcome self (now (table .entry)) word .table ⌝ }
     {
-        let s = fallen(table, again(w), 0);
+        let s = fallen(table, restarted(w), 0);
         let stage = s.stage;
         if is_damaged(stage) {
             return self.refused(Answer::Damage);
@@ -156,10 +156,10 @@ impl Header {
         let key = row_at(table, last).entry.key;
         let w = way_of(table, self, key, key as u64);
         let stage = w.stage;
-        let there = ends_at(w.row, last, stage);
+        let there = ends_at(key, w.key, stage);
         Move {
             needed: true,
-            astray: !there,
+            astray: !(there & (w.row == last)),
             hook: hook_of(w, self.width),
             rows: w.rows(self.width),
         }
@@ -176,15 +176,12 @@ fn shrink(table: &mut [u32], last: u32, hole: Hole, m: Move)
     raise(table, hole.from, hole.steps);
     set_link(table, hole.hook, Header::NONE);
     fill(table, hole.row, last, m);
-    put_row(
-        table,
-        last,
-        Row {
-            entry: Entry { key: 0 },
-            left: Header::NONE,
-            right: Header::NONE,
-        },
-    );
+    let zeros = Row {
+        entry: Entry { key: 0 },
+        left: Header::NONE,
+        right: Header::NONE,
+    };
+    put_row(table, last, zeros);
 }
 
 fn fill(table: &mut [u32], hole: u32, last: u32, m: Move)
@@ -244,8 +241,9 @@ fn hook_of(w: Walk, width: u32) -> Hook
     }
 }
 
-fn again(w: Walk) -> Walk
-    ensures { λ r. ⌜ r ≡ again w ⌝ }
+// The walk wants the row at which it ended, and has nothing remembered aside.
+fn restarted(w: Walk) -> Walk
+    ensures { λ r. ⌜ r ≡ restarted w ⌝ }
 {
     Walk {
         count: w.count,

@@ -9,15 +9,15 @@ use borrow.Author.Needs.{needs}
 use Rattle.pretree.proofs.Header.hollowed.Statement.{statement}
 use Rattle.pretree.proofs.Header.hollowed.Tie as tie
 
-again-requires : tie.Need-again-requires
-again-requires c κs =
+restarted-requires : tie.Need-restarted-requires
+restarted-requires c κs =
     search needs
 
 fallen-requires : tie.Need-fallen-requires
 fallen-requires c κs =
     let start = c .before .before .before in
     let a = start .args in
-    rw (c .again .ensures) (begun (a .self) (a .table .now) (start .pre .0) (a .word) (a .w) (start .pre .1 .1 .0) (start .pre .1 .1 .1))
+    rw (c .restarted .ensures) (begun (a .self) (a .table .now) (start .pre .0) (a .word) (a .w) (start .pre .1 .1 .0) (start .pre .1 .1 .1))
 
 is-damaged-requires : tie.Need-is-damaged-requires
 is-damaged-requires c κs =
@@ -36,7 +36,7 @@ returns c =
     let start = c .before .before .before .before .before .before .before in
     let a = start .args in
     let s = c .before .before .before .fallen in
-    let fell = rw (c .before .before .before .before .again .ensures) at (s .ensures) in
+    let fell = rw (c .before .before .before .before .restarted .ensures) at (s .ensures) in
     let broken = broken-below (a .self) (a .table .now) (start .pre .0) (a .word) (a .w) (start .pre .1 .1 .0) (start .pre .1 .1 .1) (s .result) fell in
     let outcome = on-damage (a .self) (a .table .now) (a .word) (start .pre .0) (start .pre .1 .0) (broken ∙ (cc)) in
     rw outcome (c .refused .ensures, refl)
@@ -46,7 +46,7 @@ sub-t13 c =
     let start = c .before .before .before .before .before .before .before .before in
     let a = start .args in
     let s = c .before .before .before .before .fallen in
-    let fell = rw (c .before .before .before .before .before .again .ensures) at (s .ensures) in
+    let fell = rw (c .before .before .before .before .before .restarted .ensures) at (s .ensures) in
     fell .walked .walking .fits
 
 hook-of-requires : tie.Need-hook-of-requires
@@ -58,7 +58,7 @@ rows-requires c κs =
     let start = c .before .before .before .before .before .before .before .before .before in
     let a = start .args in
     let s = c .before .before .before .before .before .fallen in
-    let fell = rw (c .before .before .before .before .before .before .again .ensures) at (s .ensures) in
+    let fell = rw (c .before .before .before .before .before .before .restarted .ensures) at (s .ensures) in
     (le-trans (fell .walked .walking .fits) (start .pre .1 .1 .0 .walking .fits), right-header (a .self) (a .table .now) (start .pre .0) .at-most-32)
 
 filled-requires : tie.Need-filled-requires
@@ -66,7 +66,7 @@ filled-requires c κs =
     let start = c .before .before .before .before .before .before .before .before .before .before .before in
     let a = start .args in
     let s = c .before .before .before .before .before .before .before .fallen in
-    let fell = rw (c .before .before .before .before .before .before .before .before .again .ensures) at (s .ensures) in
+    let fell = rw (c .before .before .before .before .before .before .before .before .restarted .ensures) at (s .ensures) in
     let walked = start .pre .1 .1 .0 in
     let there = start .pre .1 .1 .1 in
     let whole : isDamage (s .result .stage) ≡ false = cc in
@@ -96,7 +96,7 @@ pub hollowed-spec : {M : Type 1} → statement M
 hollowed-spec =
     tie.close
     (tie.spec
-    again-requires
+    restarted-requires
     fallen-requires
     is-damaged-requires
     refused-requires

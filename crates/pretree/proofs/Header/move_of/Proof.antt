@@ -38,17 +38,18 @@ hook-of-requires c κs = search needs
 
 rows-requires : tie.Need-rows-requires
 rows-requires c κs =
-    let start = c .before .before .before .before .before .before .before in
-    (c .before .before .way-of .ensures .walking .fits, right-header (start .args .self) (start .args .table .now) (start .pre .0) .at-most-32)
+    let start = c .before .before .before .before .before .before .before .before in
+    (c .before .before .before .way-of .ensures .walking .fits, right-header (start .args .self) (start .args .table .now) (start .pre .0) .at-most-32)
 
 returns-2 : tie.Need-returns-2
 returns-2 c =
-    let start = c .before .before .before .before .before .before .before .before in
+    let start = c .before .before .before .before .before .before .before .before .before in
     let a = start .args in
-    let w = c .before .before .before .way-of in
-    let gone = rw (c .before .before .before .before .row-at .ensures, sub-one) at (w .ensures) in
-    let apart : a .hole ≡ pred (a .self .count) → ⊥ = λ e. c .before .before .before .before .before .if1 .left (e ∙ sym (sub-one _)) in
-    rw (c .before .before .ends-at .ensures, c .before .hook-of .ensures, c .rows .ensures, sub-one) (
+    let w = c .before .before .before .before .way-of in
+    let last-row = c .before .before .before .before .before .row-at .ensures in
+    let gone = rw (last-row, sub-one) at (w .ensures) in
+    let apart : a .hole ≡ pred (a .self .count) → ⊥ = λ e. c .before .before .before .before .before .before .if1 .left (e ∙ sym (sub-one _)) in
+    rw (c .before .before .before .ends-at .ensures, last-row, c .before .hook-of .ensures, c .rows .ensures, sub-one) (
       last-moves (a .self) (a .table .now) (start .pre .0) (w .result) gone (a .hole) apart,
       hangs-whole (a .self) (a .table .now) (start .pre .0) _ (w .result) gone,
     )
