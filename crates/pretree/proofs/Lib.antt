@@ -5,6 +5,7 @@ pub mod Unfolding
 pub mod Walking
 pub mod Seeking
 pub mod Falling
+pub mod Raising
 pub mod Ended
 pub mod Resuming
 pub mod Pushing
@@ -12,6 +13,7 @@ pub mod Adding
 pub mod Found
 pub mod Neighbours
 pub mod Nearest
+pub mod Erasing
 pub mod SoundTest
 pub mod Starred
 pub mod Parts

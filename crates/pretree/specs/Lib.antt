@@ -14,4 +14,5 @@ pub mod Resume
 pub mod Push
 pub mod Found
 pub mod Gap
+pub mod Erased
 pub mod Starred

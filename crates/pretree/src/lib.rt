@@ -2,6 +2,7 @@
 // This file has the types of document 01, "Header and table" and "Answer numbers"; each call stands in a module of its own.
 
 mod add;
+mod erase;
 mod fall;
 mod find;
 mod gap;
