@@ -1,5 +1,5 @@
 -- The checks of document 01's order, and then what `added` answers and leaves.
-use mathlib.Core.Path.{_≡_}
+use mathlib.Core.Path.{_≡_, sym, _∙_}
 use mathlib.Core.Bool.{true, false}
 use Rattle.pretree.specs.Reply.{wrong-header, too-wide}
 use Rattle.pretree.specs.Add.{addOutcome}
@@ -20,14 +20,17 @@ same-length c = search needs
 returns : tie.Need-returns
 unfolding addOutcome
 returns c =
-    let a = c .before .before .before .before .before .args in
-    let wrong : wrong-header (a .self) (a .table .now) ≡ true = cc in
+    let wrong : wrong-header (c .before .before .before .before .before .args .self) (c .before .before .before .before .before .args .table .now) ≡ true = sym (c .before .before .is-wrong .ensures) ∙ c .before .if1 .taken in
     (simp (wrong, c .refused .ensures), simp wrong)
+
+-- the header is right
+fine : (c : tie.Else1) → let a = c .before .before .before .before .args in wrong-header (a .self) (a .table .now) ≡ false
+fine c = sym (c .before .is-wrong .ensures) ∙ c .if1 .left
 
 is-exceeded-by-requires : tie.Need-is-exceeded-by-requires
 is-exceeded-by-requires c κs =
     let a = c .before .before .before .before .args in
-    right-header (a .self) (a .table .now) (cc) .at-most-32
+    right-header (a .self) (a .table .now) (fine c) .at-most-32
 
 refused-requires-2 : tie.Need-refused-requires-2
 refused-requires-2 c κs = search needs
@@ -39,13 +42,12 @@ returns-2 : tie.Need-returns-2
 unfolding addOutcome
 returns-2 c =
     let a = c .before .before .before .before .before .before .before .args in
-    let fine : wrong-header (a .self) (a .table .now) ≡ false = cc in
-    let wide : too-wide (a .self) (a .word) ≡ true = cc in
-    (simp (fine, wide, c .refused2 .ensures), simp (fine, wide))
+    let wide : too-wide (a .self) (a .word) ≡ true = sym (c .before .before .is-exceeded-by .ensures) ∙ c .before .if2 .taken in
+    (simp (fine (c .before .before .before), wide, c .refused2 .ensures), simp (fine (c .before .before .before), wide))
 
 added-requires : tie.Need-added-requires
 added-requires c κs =
-    (cc, cc)
+    (fine (c .before .before .before), sym (c .before .before .is-exceeded-by .ensures) ∙ c .before .if2 .left)
 
 same-length-3 : tie.Need-same-length-3
 same-length-3 c = search needs

@@ -1,5 +1,5 @@
 -- Damage, then a full table, then the writes.
-use mathlib.Core.Path.{_≡_}
+use mathlib.Core.Path.{_≡_, sym, _∙_}
 use mathlib.Core.Bool.{true, false}
 use native.Mathlib.Numerals.{add-one}
 use native.Mathlib.Omega.{arith}
@@ -21,8 +21,12 @@ refused-requires c κs = search needs
 returns : tie.Need-returns
 unfolding outcomeWhere
 returns c =
-    let damage : isDamage (c .before .before .before .before .args .p .stage) ≡ true = cc in
+    let damage : isDamage (c .before .before .before .before .args .p .stage) ≡ true = sym (c .before .before .is-damaged .ensures) ∙ c .before .if1 .taken in
     (simp (damage, c .refused .ensures), simp damage)
+
+-- the push ended without damage
+fine : (c : tie.Else1) → isDamage (c .before .before .before .args .p .stage) ≡ false
+fine c = sym (c .before .is-damaged .ensures) ∙ c .if1 .left
 
 capacity-requires : tie.Need-capacity-requires
 capacity-requires c κs = search needs
@@ -36,15 +40,17 @@ same-length c = search needs
 returns-2 : tie.Need-returns-2
 unfolding outcomeWhere
 returns-2 c =
-    let a = c .before .before .before .before .before .before .before .before .args in
-    let fine : isDamage (a .p .stage) ≡ false = cc in
-    let full : a .self .count ≡ capacity (a .table .now) = cc in
-    (simp (fine, eq-eqb _ _ full, c .refused2 .ensures), simp (fine, eq-eqb _ _ full))
+    let full = eq-eqb _ _ (c .before .if2 .taken ∙ c .before .before .before .capacity .ensures) in
+    (simp (fine (c .before .before .before .before .before), full, c .refused2 .ensures), simp (fine (c .before .before .before .before .before), full))
+
+-- and there is room
+room : (c : tie.Else2) → let a = c .before .before .before .before .before .before .before .args in a .self .count ≡ capacity (a .table .now) → ⊥
+room c = λ full. c .if2 .left (full ∙ sym (c .before .before .capacity .ensures))
 
 grow-requires : tie.Need-grow-requires
 grow-requires c κs =
     let q = c .before .before .before .before .before .before .before .before in
-    let room : q .args .self .count ≡ capacity (q .args .table .now) → ⊥ = λ e. c .before .if2 .left (cc) in
+    let apart = room (c .before) in
     let fits = right-header (q .args .self) (q .args .table .now) (q .pre .0) .has-room in
     (omega arith, q .pre .1 .0)
 
@@ -68,10 +74,8 @@ same-length-2 c = search needs
 returns-3 : tie.Need-returns-3
 unfolding outcomeWhere
 returns-3 c =
-    let a = c .before .before .before .before .before .before .before .before .before .before .before .before .before .before .args in
-    let fine : isDamage (a .p .stage) ≡ false = cc in
-    let room : a .self .count ≡ capacity (a .table .now) → ⊥ = λ e. c .before .before .before .before .before .before .before .if2 .left (cc) in
-    (simp (fine, ne-eqb _ _ room, c .answered .ensures, c .before .rows .ensures, add-one), simp (fine, ne-eqb _ _ room, c .before .before .before .before .before .grow .ensures))
+    let not-full = ne-eqb _ _ (room (c .before .before .before .before .before .before .before)) in
+    (simp (fine (c .before .before .before .before .before .before .before .before .before .before .before), not-full, c .answered .ensures, c .before .rows .ensures, add-one), simp (fine (c .before .before .before .before .before .before .before .before .before .before .before), not-full, c .before .before .before .before .before .grow .ensures))
 
 pub added-where-spec : {M : Type 1} → statement M
 added-where-spec =

@@ -18,13 +18,17 @@ returns : tie.Need-returns
 unfolding hasReply
 returns c =
     let a = c .before .before .before .before .args in
-    let wrong : wrong-header (a .self) (a .table .now) ≡ true = cc in
+    let wrong : wrong-header (a .self) (a .table .now) ≡ true = sym (c .before .before .is-wrong .ensures) ∙ c .before .if1 .taken in
     simp (wrong, c .refused .ensures)
+
+-- the header is right
+fine : (c : tie.Else1) → let a = c .before .before .before .args in wrong-header (a .self) (a .table .now) ≡ false
+fine c = sym (c .before .is-wrong .ensures) ∙ c .if1 .left
 
 is-exceeded-by-requires : tie.Need-is-exceeded-by-requires
 is-exceeded-by-requires c κs =
     let a = c .before .before .before .args in
-    right-header (a .self) (a .table .now) (cc) .at-most-32
+    right-header (a .self) (a .table .now) (fine c) .at-most-32
 
 refused-requires-2 : tie.Need-refused-requires-2
 refused-requires-2 c κs = search needs
@@ -33,13 +37,12 @@ returns-2 : tie.Need-returns-2
 unfolding hasReply
 returns-2 c =
     let a = c .before .before .before .before .before .before .args in
-    let fine : wrong-header (a .self) (a .table .now) ≡ false = cc in
-    let wide : too-wide (a .self) (a .word) ≡ true = cc in
-    simp (fine, wide, c .refused2 .ensures)
+    let wide : too-wide (a .self) (a .word) ≡ true = sym (c .before .before .is-exceeded-by .ensures) ∙ c .before .if2 .taken in
+    simp (fine (c .before .before .before), wide, c .refused2 .ensures)
 
 found-requires : tie.Need-found-requires
 found-requires c κs =
-    (cc, cc)
+    (fine (c .before .before), sym (c .before .is-exceeded-by .ensures) ∙ c .if2 .left)
 
 returns-3 : tie.Need-returns-3
 returns-3 c = search needs

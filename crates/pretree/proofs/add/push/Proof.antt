@@ -31,24 +31,19 @@ loop-holds c =
     (search needs, search needs, begins-push _ _ _ _ _ (search needs))
 
 sub-left : tie.Need-sub-left Inv-loop μ-loop
-sub-left c =
-    search needs
+sub-left c = search needs
 
 row-at-requires : tie.Need-row-at-requires Inv-loop μ-loop
-row-at-requires c κs =
-    next-used _ _ _ _ _ _ _ _ _ (ready (c .before))
+row-at-requires c κs = next-used _ _ _ _ _ _ _ _ _ (ready (c .before))
 
 cast-key : tie.Need-cast-key Inv-loop μ-loop
-cast-key c =
-    search needs
+cast-key c = search needs
 
 cast-link-at : tie.Need-cast-link-at Inv-loop μ-loop
-cast-link-at c =
-    search needs
+cast-link-at c = search needs
 
 shr-link-at : tie.Need-shr-link-at Inv-loop μ-loop
-shr-link-at c =
-    search needs
+shr-link-at c = search needs
 
 link-at-requires : tie.Need-link-at-requires Inv-loop μ-loop
 link-at-requires c κs =
@@ -59,8 +54,7 @@ put-entry-requires c κs =
     next-used _ _ _ _ _ _ _ _ _ (ready (c .before .before .before .before .before .before))
 
 loop-less : tie.Need-loop-less Inv-loop μ-loop
-loop-less c =
-    search needs
+loop-less c = search needs
 
 loop-again : tie.Need-loop-again Inv-loop μ-loop
 unfolding side
@@ -76,8 +70,7 @@ loop-again c =
     )
 
 same-length : tie.Need-same-length Inv-loop μ-loop
-same-length c =
-    c .before .loop .inv .2 .same-length
+same-length c = c .before .loop .inv .2 .same-length
 
 returns : tie.Need-returns Inv-loop μ-loop
 returns c =

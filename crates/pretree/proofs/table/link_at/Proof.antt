@@ -20,8 +20,7 @@ mul-result c = search needs
 
 shared-slice-read-result : tie.Need-shared-slice-read-result
 unfolding capacity
-shared-slice-read-result c =
-    omega arith
+shared-slice-read-result c = omega arith
 
 returns : tie.Need-returns
 returns c =

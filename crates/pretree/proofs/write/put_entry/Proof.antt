@@ -13,16 +13,14 @@ mul-table c = search needs
 
 slice-write-table : tie.Need-slice-write-table
 unfolding capacity
-slice-write-table c =
-    omega arith
+slice-write-table c = omega arith
 
 same-length : tie.Need-same-length
 same-length c = search needs
 
 returns : tie.Need-returns
 unfolding withKey
-returns c =
-    refl
+returns c = refl
 
 pub put-entry-spec : {M : Type 1} → statement M
 put-entry-spec = tie.close (tie.spec mul-at mul-table slice-write-table same-length returns)

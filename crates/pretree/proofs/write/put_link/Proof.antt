@@ -19,8 +19,7 @@ mul-table c = search needs
 
 slice-write-table : tie.Need-slice-write-table
 unfolding capacity
-slice-write-table c =
-    omega arith
+slice-write-table c = omega arith
 
 same-length : tie.Need-same-length
 same-length c = search needs

@@ -15,8 +15,7 @@ mul-table c = search needs
 
 slice-write-table : tie.Need-slice-write-table
 unfolding capacity
-slice-write-table c =
-    omega arith
+slice-write-table c = omega arith
 
 add-table : tie.Need-add-table
 add-table c = search needs
@@ -26,8 +25,7 @@ mul-table-2 c = search needs
 
 slice-write-table-2 : tie.Need-slice-write-table-2
 unfolding capacity
-slice-write-table-2 c =
-    simp length-set (omega arith)
+slice-write-table-2 c = simp length-set (omega arith)
 
 add-table-2 : tie.Need-add-table-2
 add-table-2 c = search needs
@@ -37,12 +35,10 @@ mul-table-3 c = search needs
 
 slice-write-table-3 : tie.Need-slice-write-table-3
 unfolding capacity
-slice-write-table-3 c =
-    simp length-set (omega arith)
+slice-write-table-3 c = simp length-set (omega arith)
 
 same-length : tie.Need-same-length
-same-length c =
-    simp length-set
+same-length c = simp length-set
 
 returns : tie.Need-returns
 unfolding withRow
