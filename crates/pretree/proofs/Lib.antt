@@ -7,6 +7,9 @@ pub mod Seeking
 pub mod Falling
 pub mod Raising
 pub mod Ended
+pub mod Resuming
+pub mod Pushing
+pub mod Adding
 pub mod Found
 pub mod Erasing
 pub mod SoundTest

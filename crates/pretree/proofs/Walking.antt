@@ -173,11 +173,11 @@ turned-comes rows f w m left r e = go (eqb (r .right) 0)
     go false = comes rows f m (r .entry .key) 0 (r .left) (remembering w) (stageAt (w .count) (r .left)) e
 
 -- what is to be shown of the walk v after a row that the walk w wanted
-record AfterRow (rows : ℕ → Row) (f : Rule) (width : ℕ) (whole : Way) (w v : Walk) : Type 0 where
-  goes : Goes rows width whole v (toCome rows f v)
-  placed : Placed rows v (v .stage)
-  within : v .bits ≤ width
-  same-count : v .count ≡ w .count
+pub record AfterRow (rows : ℕ → Row) (f : Rule) (width : ℕ) (whole : Way) (w v : Walk) : Type 0 where
+  pub goes : Goes rows width whole v (toCome rows f v)
+  pub placed : Placed rows v (v .stage)
+  pub within : v .bits ≤ width
+  pub same-count : v .count ≡ w .count
 
 module _ (rows : ℕ → Row) (f : Rule) (width : ℕ) (whole : Way) (w : Walk) (used : w .row < w .count) (fits : w .bits ≤ width)
     (g : Goes rows width whole w (way f (w .bits) (treeAt rows w))) where
@@ -256,7 +256,7 @@ module _ (rows : ℕ → Row) (f : Rule) (width : ℕ) (whole : Way) (w : Walk) 
   by-turn m Right e h says = passes-by m right e h says
 
   -- the row that the walk wants takes it on along the whole way
-  meets : (t : Turn) → ((m : ℕ) → w .bits ≡ suc m → Says m t) → After (met w here-row t)
+  pub meets : (t : Turn) → ((m : ℕ) → w .bits ≡ suc m → Says m t) → After (met w here-row t)
   unfolding met
   meets t says = by-row (holds w here-row) refl
     where
@@ -270,7 +270,7 @@ module _ (rows : ℕ → Row) (f : Rule) (width : ℕ) (whole : Way) (w : Walk) 
       by-row false h = ends AtDamage (rw (is-damaged rows (w .count) (w .bits) (w .path) (w .low) (w .row) (judged-is false h)) (at-damage f (w .bits))) tt
       by-row true h = by-bits (eqb (w .bits) 0) refl h
 
-is-on : (stage : Stage) → isOn stage ≡ true → stage ≡ On
+pub is-on : (stage : Stage) → isOn stage ≡ true → stage ≡ On
 is-on On h = refl
 is-on AtNone h = sym (cc)
 is-on AtRow h = sym (cc)

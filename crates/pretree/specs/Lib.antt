@@ -9,6 +9,8 @@ pub mod Add
 pub mod Del
 pub mod Whole
 pub mod Walk
+pub mod Resume
+pub mod Push
 pub mod Found
 pub mod Erased
 pub mod Starred

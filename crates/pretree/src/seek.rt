@@ -13,7 +13,7 @@ ghost use Rattle.pretree.specs.Reply.{wrong-header};
 ghost use Rattle.pretree.specs.Walk.{seekTurn, seeking, Walked};
 
 // "follow k's bits; stop [..] at the first row whose key is k or more"
-fn seek_turn(word: u32, limit: u64, key: u32, bits: u32) -> Turn
+pub fn seek_turn(word: u32, limit: u64, key: u32, bits: u32) -> Turn
     requires { ⌜ bits ≤ 32 ⌝ }
     ensures { λ r. ⌜ r ≡ seekTurn limit word key bits ⌝ }
 {

@@ -6,6 +6,7 @@ use crate::Row;
 ghost use mathlib.Core.Path.{_≡_};
 ghost use Prim.Native.Nat.{_≤_, _<_, _^_};
 ghost use Rattle.pretree.specs.Walk.{started, startedAt, isOn, holds, ended, remembering, passed, turned, stageAt, met, rowsRead};
+ghost use Rattle.pretree.specs.Resume.{isDamage, endsAt, resumed};
 
 // Where a walk is: at a row that it wants to read, or at its end, which is an empty link, a row or damage.
 pub enum Stage {
@@ -214,6 +215,46 @@ impl Walk {
             return self.ended(Stage::AtRow, key);
         }
         self.turned(row, turn)
+    }
+
+    // It ended at damage.
+    pub fn is_damaged(self) -> bool
+        ensures { λ r. ⌜ r ≡ isDamage (self .stage) ⌝ }
+    {
+        let stage = self.stage;
+        match stage {
+            Stage::AtDamage => true,
+            Stage::On => false,
+            Stage::AtNone => false,
+            Stage::AtRow => false,
+        }
+    }
+
+    // It ended at the row of that word.
+    pub fn ends_at(self, word: u32) -> bool
+        ensures { λ r. ⌜ r ≡ endsAt word (self .key) (self .stage) ⌝ }
+    {
+        let stage = self.stage;
+        match stage {
+            Stage::AtRow => word == self.key,
+            Stage::On => false,
+            Stage::AtNone => false,
+            Stage::AtDamage => false,
+        }
+    }
+
+    // Where it ended at a row, it wants that row again, to go on from there by another rule.
+    pub fn resumed(self) -> Walk
+        ensures { λ r. ⌜ r ≡ resumed self ⌝ }
+    {
+        let key = self.key;
+        let stage = self.stage;
+        match stage {
+            Stage::AtRow => self.ended(Stage::On, key),
+            Stage::On => self,
+            Stage::AtNone => self,
+            Stage::AtDamage => self,
+        }
     }
 }
 

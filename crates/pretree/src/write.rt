@@ -4,9 +4,10 @@ use crate::Entry;
 use crate::Header;
 use crate::Row;
 ghost use mathlib.Core.Path.{_≡_};
+ghost use mathlib.Core.Bool.{true};
 ghost use Prim.Native.Nat.{_<_};
 ghost use Rattle.ordered.specs.Word.{sideOf};
-ghost use Rattle.pretree.specs.Table.{capacity, withKey, withLink, withRow};
+ghost use Rattle.pretree.specs.Table.{capacity, withKey, withLink, withRow, hooked};
 
 // Row i takes an entry, all of it at once.
 pub fn put_entry(table: &mut [u32], i: u32, entry: Entry)
@@ -24,6 +25,17 @@ pub fn put_link(table: &mut [u32], i: u32, side: u64, link: u32)
 {
     let at = Header::ROW * (i as usize) + 1 + (side as usize);
     table[at] = link;
+}
+
+// The same of the row where a way passed last, if it passed any.
+pub fn hook(table: &mut [u32], any: bool, i: u32, side: u64, link: u32)
+    requires row { ⌜ (any ≡ true → i < capacity (now table)) ⌝ }
+    requires side { ⌜ side < 2 ⌝ }
+    ensures { λ _. ⌜ now (table .exit) ≡ hooked any i (sideOf side) link (now (table .entry)) ⌝ }
+{
+    if any {
+        put_link(table, i, side, link);
+    }
 }
 
 pub fn put_row(table: &mut [u32], i: u32, row: Row)

@@ -1,5 +1,4 @@
 use native.Mathlib.Omega.{arith}
-use mathlib.Core.Path.{_≡_}
 use Rattle.pretree.specs.Table.{capacity, withLink}
 use Rattle.pretree.proofs.Writing.{bit-of-side}
 use borrow.Author.Needs.{needs}

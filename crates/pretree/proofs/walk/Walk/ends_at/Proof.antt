@@ -2,8 +2,8 @@
 use mathlib.Core.Path.{_≡_}
 use Rattle.pretree.specs.declared.walk.Stage.the-variants.{AtRow}
 use borrow.Author.Needs.{needs}
-use Rattle.pretree.proofs.erase.ends_at.Statement.{statement}
-use Rattle.pretree.proofs.erase.ends_at.Tie as tie
+use Rattle.pretree.proofs.walk.Walk.ends_at.Statement.{statement}
+use Rattle.pretree.proofs.walk.Walk.ends_at.Tie as tie
 
 enum-told : tie.Need-enum-told
 enum-told c = search needs
@@ -19,8 +19,8 @@ enum-told-4 c = search needs
 
 returns : tie.Need-returns
 returns c =
-    let at : c .before .before .args .stage ≡ AtRow = search needs in
-    simp at
+    let at : c .before .before .before .args .self .stage ≡ AtRow = search needs in
+    simp (at)
 
 returns-2 : tie.Need-returns-2
 returns-2 c = search needs
