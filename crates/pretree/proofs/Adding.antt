@@ -36,7 +36,7 @@ use Rattle.pretree.proofs.Resuming.{resumes, Told, told, rows-used, sho
 use Rattle.pretree.proofs.Pushing.{rises-within, Pushed, none-pushed, is-pushed}
 
 -- where the row above is remembered, the new row is linked there
-hooks : (rows : ℕ → Row) (n m above i : ℕ) (s : Side) (table : List ℕ) (b : Bool) → hooking (remembered rows n b m above s) i table ≡ hooked b above s i table
+pub hooks : (rows : ℕ → Row) (n m above i : ℕ) (s : Side) (table : List ℕ) (b : Bool) → hooking (remembered rows n b m above s) i table ≡ hooked b above s i table
 unfolding stepAt
 hooks rows n m above i s table true = refl
 hooks rows n m above i s table false = refl
@@ -97,7 +97,7 @@ module _ (h : Header) (table : List ℕ) (k : ℕ) (w : Walk) (fine : wrong-head
             used = rows-used rows pushing (w .count) (w .bits) (w .path) (w .low) (w .row);
           })
 
-  there : ends-at k first ≡ endsAt k (w .key) (w .stage)
+  pub there : ends-at k first ≡ endsAt k (w .key) (w .stage)
   there = rw (all-gone rows _ _ _ _ w gone .end) (by-stage (w .stage))
     where
       by-key : (b : Bool) → isThere (if b then such (w .key) else no-such) ≡ b

@@ -1,5 +1,5 @@
 -- From the walks of `del` to what it answers and leaves: the stretch below k's row, the way of the last row, and the outcome.
-use Prim.Native.Nat.{ℕ, zero, suc, pred, _-_, _%_, _≤_, _<_}
+use Prim.Native.Nat.{ℕ, pred, _-_, _%_, _≤_, _<_}
 use mathlib.Core.Path.{_≡_, refl, sym, _∙_, subst}
 use mathlib.Core.Bool.{Bool, true, false, not, _&&_, _||_, true≢false}
 use mathlib.Core.List.{List}
@@ -8,15 +8,13 @@ use native.Mathlib.Omega.{arith}
 use lib.Dec.{ltb, eqb}
 use lib.ListN.{length, length-append}
 use borrow.Author.Tests.{ltb-true, ltb-false, lt-ltb, eq-eqb, ne-eqb}
-use Rattle.ordered.specs.Such.{if_then_else_, Perhaps, no-such, such, first-of, only-if, anything}
-use Rattle.ordered.specs.Word.{Side, left, right, sideOf}
-use Rattle.ordered.specs.Tree.{Tree, none, row, damaged, part, exists}
+use Rattle.ordered.specs.Such.{if_then_else_, Perhaps, first-of, anything}
+use Rattle.ordered.specs.Word.{left, sideOf}
+use Rattle.ordered.specs.Tree.{Tree, row, exists}
 use Rattle.ordered.specs.Way.{Way, Step, Rule, way, joined, broken, isDamaged, following, down}
 use Rattle.ordered.specs.Way as Ways
-use Rattle.ordered.specs.Reading.{keyAt}
-use Rattle.ordered.specs.Change.{Erasing, erasing, erasing-by, ends-at, isThere, numberAt, above-end}
-use Rattle.ordered.proofs.Parts.{All, none-all, one-all, all-append, If-such, last-such-one, last-such-append}
-use Rattle.ordered.proofs.Ways.{along, and-true}
+use Rattle.ordered.specs.Change.{Erasing, erasing, erasing-by, ends-at, numberAt, above-end}
+use Rattle.ordered.proofs.Parts.{All, all-append, If-such, last-such-one, last-such-append}
 use Rattle.pretree.specs.declared.Header.{Header}
 use Rattle.pretree.specs.declared.Row.{Row}
 use Rattle.pretree.specs.declared.Answer.the-variants.{Done, Damage, NoSuchWord}
@@ -27,78 +25,39 @@ use Rattle.pretree.specs.declared.erase.Hook.{Hook}
 use Rattle.pretree.specs.declared.erase.Hole.{Hole}
 use Rattle.pretree.specs.declared.erase.Move.{Move}
 use Rattle.pretree.specs.Table.{capacity, rowAt, withRow, cleared}
-use Rattle.pretree.specs.Unfold.{judged, linked, unfolded, shown}
+use Rattle.pretree.specs.Unfold.{linked, shown}
 use Rattle.pretree.specs.Reply.{wrong-header, too-wide, refused, answered}
-use Rattle.pretree.specs.Walk.{rowsRead, treeAt, to-come, below, stepAt, remembered, seeking, Goes, Placed, Walked, Begun, Fell}
+use Rattle.pretree.specs.Walk.{rowsRead, treeAt, to-come, stepAt, remembered, seeking, Goes, Placed, Walked, Begun, Fell}
 use Rattle.pretree.specs.Add.{hooking}
 use Rattle.pretree.specs.Del.{secondWay, astray, moving, shrunk, delOutcome}
-use Rattle.pretree.specs.Erased.{isDamage, endsAt, restarted, hookOf, hooked, Hooks, Hangs, Hollow, Moves, Within, filled, emptied}
+use Rattle.pretree.specs.Resume.{isDamage, endsAt, Going}
+use Rattle.pretree.specs.Erased.{restarted, hookOf, hookedAt, Hooks, Hangs, Hollow, Moves, Within, filled, emptied}
 use Rattle.pretree.proofs.Checks.{right-header}
-use Rattle.pretree.proofs.Unfolding.{is-damaged, is-row}
 use Rattle.pretree.proofs.Ended.{endPart, Gone, all-gone, rows-gone}
 use Rattle.pretree.proofs.Seeking.{following-is}
+use Rattle.pretree.proofs.Resuming.{told, rows-used, shown-used}
+use Rattle.pretree.proofs.Adding.{hooks, there, in-table}
 use Rattle.pretree.proofs.Raising.{Stretch, stretch}
 
--- the rows of a table with n rows in use are numbered below n
-unfoldable Numbered : ℕ → Tree → Type 0
-Numbered n none = Unit {0}
-Numbered n (row i e l r) = (i < n) × Numbered n l × Numbered n r
-Numbered n damaged = Unit {0}
-
-module _ (rows : ℕ → Row) (n : ℕ) where
-  linked-numbered : (f : ℕ → Tree) → ((i : ℕ) → Numbered n (f i)) → (i : ℕ) → Numbered n (linked f i)
-  unfolding Numbered
-  linked-numbered f h zero = tt
-  linked-numbered f h (suc i) = h (suc i)
-
-  row-numbered : (m path low i : ℕ) → Numbered n (below rows n m i left) → Numbered n (below rows n m i right) → Numbered n (unfolded rows n m path low i)
-  unfolding Numbered
-  row-numbered m path low i l r = go (judged n m path low i (rows i)) refl
-    where
-      go : (b : Bool) → judged n m path low i (rows i) ≡ b → Numbered n (unfolded rows n m path low i)
-      go false h = rw (is-damaged rows n m path low i h) tt
-      go true h = rw (is-row rows n m path low i h) (ltb-true i n (and-true (ltb i n) _ h .0), l, r)
-
-  unfolded-numbered : (m path low i : ℕ) → Numbered n (unfolded rows n m path low i)
-  unfolding Numbered
-  unfolded-numbered zero path low i = row-numbered zero path low i tt tt
-  unfolded-numbered (suc m) path low i =
-      row-numbered (suc m) path low i
-      (linked-numbered _ (λ j. unfolded-numbered m _ _ j) (rows i .left))
-      (linked-numbered _ (λ j. unfolded-numbered m _ _ j) (rows i .right))
-
-shown-numbered : (h : Header) (table : List ℕ) → Numbered (h .count) (shown h table)
-unfolding shown Numbered
-shown-numbered h table = go (eqb (h .count) 0)
-  where
-    go : (b : Bool) → Numbered (h .count) (if b then none else unfolded (rowAt table) (h .count) (h .width) 0 0 0)
-    go true = tt
-    go false = unfolded-numbered (rowAt table) (h .count) (h .width) 0 0 0
-
--- so a way passes only such rows
-way-numbered : (f : Rule) (n m : ℕ) (t : Tree) → Numbered n t → All (λ s. s .at < n) (way f m t .passed)
-unfolding Numbered
-way-numbered f n =
-    along f (λ m t w. Numbered n t → All (λ s. s .at < n) (w .passed)) (λ m t ends h. none-all)
-    (λ m i e l r s says rest h. one-all (h .0) (rest (by-side s l r (h .1) (h .2))))
-  where
-    by-side : (s : Side) (l r : Tree) → Numbered n l → Numbered n r → Numbered n (part s l r)
-    by-side left l r hl hr = hl
-    by-side right l r hl hr = hr
+-- a walk that has ended tells whether its way is broken
+damage-told : (rows : ℕ → Row) (f : Rule) (width count : ℕ) (tree : Tree) (w : Walk) → Walked rows f width count tree w
+    → isDamaged (way f width tree .end) ≡ isDamage (w .stage)
+damage-told rows f width count tree w k =
+    let on : Going rows f width count (way f width tree) w
+    = record { goes = k .walking .goes; placed = k .walking .placed; fits = k .walking .fits; same-count = k .walking .same-count } in
+    told rows f width count (way f width tree) w (k .ended) on .damage
 
 -- where a way that a walk remembers is linked
 module _ (rows : ℕ → Row) (n room bits above path : ℕ) (fits : n ≤ room) where
   hook-told : (b : Bool) (p : Perhaps Step) → p ≡ remembered rows n b bits above (sideOf (path % 2))
       → Hooks p (record { linked = b; above = above; side = path % 2 })
-  unfolding stepAt hooked
-  hook-told true p e = λ i table. rw e
-  hook-told false p e = λ i table. rw e
+  hook-told b p e = λ i table. rw e (hooks rows n bits above i (sideOf (path % 2)) table b)
 
   hang-told : (b : Bool) (p : Perhaps Step) → p ≡ remembered rows n b bits above (sideOf (path % 2)) → If-such (λ s. s .at < n) p
       → Hangs room (record { linked = b; above = above; side = path % 2 })
   unfolding stepAt
-  hang-told true p e h = λ linked. (lt-of-lt-of-le (rw e at h) fits, omega arith)
-  hang-told false p e h = λ linked. absurd (true≢false (sym linked))
+  hang-told true p e h = (λ linked. lt-of-lt-of-le (rw e at h) fits, omega arith)
+  hang-told false p e h = (λ linked. absurd (true≢false (sym linked)), omega arith)
 
 module _ (h : Header) (table : List ℕ) (fine : wrong-header h table ≡ false) (k : ℕ) (w : Walk)
     (gone : Walked (rowAt table) (seeking k k) (h .width) (h .count) (shown h table) w) where
@@ -115,30 +74,14 @@ module _ (h : Header) (table : List ℕ) (fine : wrong-header h table ≡ false)
   end-part = endPart rows (seeking k k) (h .width) (h .count) (shown h table) w gone
 
   room : w .count ≤ capacity table
-  room = rw (gone .walking .same-count) (right-header h table fine .has-room)
+  room = in-table h table k w fine gone
 
   pub broken-is : broken whole ≡ isDamage (w .stage)
   unfolding broken
-  broken-is = rw (following-is k, at-end .end) (by-stage (w .stage))
-    where
-      by-stage : (stage : Stage) → isDamaged (end-part stage) ≡ isDamage stage
-      by-stage On = refl
-      by-stage AtNone = refl
-      by-stage AtRow = refl
-      by-stage AtDamage = refl
+  broken-is = rw (following-is k) (damage-told rows (seeking k k) (h .width) (h .count) (shown h table) w gone)
 
   pub ends-is : ends-at k whole ≡ endsAt k (w .key) (w .stage)
-  ends-is = rw (following-is k, at-end .end) (by-stage (w .stage))
-    where
-      by-key : (b : Bool) → isThere (if b then such (w .key) else no-such) ≡ b
-      by-key true = refl
-      by-key false = refl
-
-      by-stage : (stage : Stage) → isThere (only-if (eqb k) (keyAt (end-part stage))) ≡ endsAt k (w .key) stage
-      by-stage On = refl
-      by-stage AtNone = refl
-      by-stage AtRow = by-key (eqb k (w .key))
-      by-stage AtDamage = refl
+  ends-is = rw (following-is k) (there h table k w fine gone)
 
   pub rows-are : Ways.rows whole ≡ rowsRead w (h .width)
   rows-are = rw (following-is k) (rows-gone rows (seeking k k) (h .width) (h .count) (shown h table) w gone)
@@ -147,17 +90,17 @@ module _ (h : Header) (table : List ℕ) (fine : wrong-header h table ≡ false)
   above-is = rw (following-is k) (at-end .above)
 
   pub hooks-whole : Hooks (above-end whole) (hookOf w (h .width))
-  hooks-whole = hook-told rows (w .count) (capacity table) (w .bits) (w .above) (w .path) room _ _ above-is
+  hooks-whole = hook-told rows (w .count) (capacity table) (w .bits) (w .above) (w .path) room (ltb (w .bits) (h .width)) (above-end whole) above-is
 
-  passed-numbered : All (λ s. s .at < w .count) (whole .passed)
-  passed-numbered = rw (gone .walking .same-count) (way-numbered (following k) (h .count) (h .width) (shown h table) (shown-numbered h table))
+  whole-used : All (λ s. s .at < w .count) (whole .passed)
+  whole-used = rw (gone .walking .same-count) (shown-used (following k) h table)
 
   pub hangs-whole : Hangs (capacity table) (hookOf w (h .width))
   hangs-whole =
-      hang-told rows (w .count) (capacity table) (w .bits) (w .above) (w .path) room _ _ above-is (last-such-one anything passed-numbered)
+      hang-told rows (w .count) (capacity table) (w .bits) (w .above) (w .path) room (ltb (w .bits) (h .width)) (above-end whole) above-is (last-such-one anything whole-used)
 
   -- "the way of k, then from k's row down": the walk that ended at k's row goes on from there
-  module _ (there : endsAt k (w .key) (w .stage) ≡ true) where
+  module _ (at-k : endsAt k (w .key) (w .stage) ≡ true) where
     at-row : (stage : Stage) → endsAt k (w .key) stage ≡ true → stage ≡ AtRow
     at-row On e = cc
     at-row AtNone e = cc
@@ -165,7 +108,7 @@ module _ (h : Header) (table : List ℕ) (fine : wrong-header h table ≡ false)
     at-row AtDamage e = cc
 
     placed : Placed rows w AtRow
-    placed = subst (Placed rows w) (at-row (w .stage) there) (gone .walking .placed)
+    placed = subst (Placed rows w) (at-row (w .stage) at-k) (gone .walking .placed)
 
     pub some-rows : 0 < h .count
     some-rows = rw (← gone .walking .same-count) (omega (arith, placed .0))
@@ -183,7 +126,7 @@ module _ (h : Header) (table : List ℕ) (fine : wrong-header h table ≡ false)
     goes : Goes rows (h .width) (way (seeking k k) (h .width) (shown h table)) w (to-come rows (seeking k k) w AtRow)
     goes =
         subst (λ (s : Stage). Goes rows (h .width) (way (seeking k k) (h .width) (shown h table)) w (to-come rows (seeking k k) w s))
-        (at-row (w .stage) there) (gone .walking .goes)
+        (at-row (w .stage) at-k) (gone .walking .goes)
 
     end-is : whole .end ≡ treeAt rows w
     end-is = rw (following-is k) (sym (goes .end))
@@ -206,19 +149,13 @@ module _ (h : Header) (table : List ℕ) (fine : wrong-header h table ≡ false)
 
       is-erasing : e ≡ erasing-by whole below-way (joined whole below-way) true
       unfolding erasing
-      is-erasing = rw (ends-is ∙ there)
+      is-erasing = rw (ends-is ∙ at-k)
 
       abbrev hole-part : Stage → Tree
       hole-part = endPart rows (down left) (w .bits) (w .count) (treeAt rows w) s (fell .walked)
 
       damaged-below : isDamaged (way (down left) (w .bits) (treeAt rows w) .end) ≡ isDamage (s .stage)
-      damaged-below = rw (at-hole .end) (by-stage (s .stage))
-        where
-          by-stage : (stage : Stage) → isDamaged (hole-part stage) ≡ isDamage stage
-          by-stage On = refl
-          by-stage AtNone = refl
-          by-stage AtRow = refl
-          by-stage AtDamage = refl
+      damaged-below = damage-told rows (down left) (w .bits) (w .count) (treeAt rows w) s (fell .walked)
 
       pub broken-below : broken (e .rows-read) ≡ isDamage (s .stage)
       unfolding broken joined
@@ -250,19 +187,16 @@ module _ (h : Header) (table : List ℕ) (fine : wrong-header h table ≡ false)
               let still = fell .unmoved same in
               rw (same, still .0, still .1)
 
-      all-below : All (λ t. t .at < w .count) (joined whole below-way .passed)
+      both-used : All (λ t. t .at < w .count) (joined whole below-way .passed)
       unfolding joined
-      all-below =
-          all-append passed-numbered
-          (rw below-is
-          (way-numbered (down left) (w .count) (w .bits) (treeAt rows w) (unfolded-numbered rows (w .count) (w .bits) (w .path) (w .low) (w .row))))
+      both-used = all-append whole-used (rw below-is (rows-used rows (down left) (w .count) (w .bits) (w .path) (w .low) (w .row)))
 
       module _ (unbroken : isDamage (s .stage) ≡ false) where
-        abbrev st : Stretch rows (w .count) (capacity table) room (w .low) (w .row) (way (down left) (w .bits) (treeAt rows w))
-        st = stretch rows (w .count) (capacity table) room (w .bits) (w .path) (w .low) (w .row) (damaged-below ∙ unbroken)
+        abbrev stretch-is : Stretch rows (w .count) (capacity table) room (w .low) (w .row) (way (down left) (w .bits) (treeAt rows w))
+        stretch-is = stretch rows (w .count) (capacity table) room (w .bits) (w .path) (w .low) (w .row) (damaged-below ∙ unbroken)
 
         at-hole-row : s .stage ≡ AtRow
-        at-hole-row = go (s .stage) unbroken (rw (at-hole .end) at (st .ends))
+        at-hole-row = go (s .stage) unbroken (rw (at-hole .end) at (stretch-is .ends))
           where
             go : (stage : Stage) → isDamage stage ≡ false → exists (hole-part stage) ≡ true → stage ≡ AtRow
             go On ok ends = cc
@@ -280,20 +214,20 @@ module _ (h : Header) (table : List ℕ) (fine : wrong-header h table ≡ false)
               whole = broken-below ∙ unbroken;
               present = rw is-erasing;
               rows = rw is-erasing rows-below;
-              takes = rw (is-erasing, below-is, ← at-hole .number) (st .takes);
+              takes = rw (is-erasing, below-is, ← at-hole .number) (stretch-is .takes);
               row = rw (is-erasing, below-is, at-hole .end) (subst (λ (t : Stage). numberAt (hole-part t) ≡ s .row) (sym at-hole-row) refl);
               hook =
                   rw is-erasing
-                  (hook-told rows (w .count) (capacity table) (s .bits) (s .above) (s .path) room _ _ above-below);
+                  (hook-told rows (w .count) (capacity table) (s .bits) (s .above) (s .path) room (ltb (s .bits) (h .width)) (above-end (joined whole below-way)) above-below);
             }
 
         pub within : Within table the-hole
         within =
             record {
-              rises = rw (← at-hole .number) (st .rises);
+              rises = rw (← at-hole .number) (stretch-is .rises);
               hangs =
-                  hang-told rows (w .count) (capacity table) (s .bits) (s .above) (s .path) room _ _ above-below
-                  (last-such-one anything all-below);
+                  hang-told rows (w .count) (capacity table) (s .bits) (s .above) (s .path) room (ltb (s .bits) (h .width)) (above-end (joined whole below-way)) above-below
+                  (last-such-one anything both-used);
               used = lt-of-lt-of-le (rw (fell .walked .walking .same-count) at (subst (Placed rows s) at-hole-row (fell .walked .walking .placed) .0)) room;
             }
 
@@ -348,18 +282,16 @@ module _ (h : Header) (table : List ℕ) (k : ℕ) (fine : wrong-header h table 
   unfolding delOutcome
   on-damage b = rw (fine, small, b)
 
-  pub not-there : (w : Walk) → Walked (rowAt table) (seeking k k) (h .width) (h .count) (shown h table) w
-      → endsAt k (w .key) (w .stage) ≡ false → isDamage (w .stage) ≡ false
-      → delOutcome h table k ≡ record { reply = answered h NoSuchWord (rowsRead w (h .width)); table = table }
-  unfolding delOutcome erasing
-  not-there w gone absent ok =
-      rw (fine, small, ends-is h table fine k w gone ∙ absent, broken-is h table fine k w gone ∙ ok, rows-are h table fine k w gone)
+  module _ (w : Walk) (gone : Walked (rowAt table) (seeking k k) (h .width) (h .count) (shown h table) w) (absent : endsAt k (w .key) (w .stage) ≡ false) where
+    pub broken-above : broken (change .rows-read) ≡ isDamage (w .stage)
+    unfolding erasing
+    broken-above = rw (ends-is h table fine k w gone ∙ absent) (broken-is h table fine k w gone)
 
-  pub on-way-damage : (w : Walk) → Walked (rowAt table) (seeking k k) (h .width) (h .count) (shown h table) w
-      → endsAt k (w .key) (w .stage) ≡ false → isDamage (w .stage) ≡ true
-      → delOutcome h table k ≡ record { reply = refused h Damage; table = table }
-  unfolding delOutcome erasing
-  on-way-damage w gone absent bad = rw (fine, small, ends-is h table fine k w gone ∙ absent, broken-is h table fine k w gone ∙ bad)
+    pub not-there : isDamage (w .stage) ≡ false
+        → delOutcome h table k ≡ record { reply = answered h NoSuchWord (rowsRead w (h .width)); table = table }
+    unfolding delOutcome erasing
+    not-there ok =
+        rw (fine, small, ends-is h table fine k w gone ∙ absent, broken-is h table fine k w gone ∙ ok, rows-are h table fine k w gone)
 
   module _ (hole : Hole) (m : Move) (e : Hollow change table hole) (v : Moves h table (hole .row) m) where
     moves-is : not (eqb (change .hole) (pred (h .count))) ≡ m .needed
@@ -377,7 +309,7 @@ module _ (h : Header) (table : List ℕ) (k : ℕ) (fine : wrong-header h table 
             → withRow (pred (h .count)) cleared
             (if b then hooking (above-end (secondWay h table)) (hole .row) (withRow (hole .row) (rowAt t (pred (h .count))) t) else t)
             ≡ withRow (pred (h .count)) cleared
-            (if b then hooked (m .hook) (hole .row) (withRow (hole .row) (rowAt t (pred (h .count))) t) else t)
+            (if b then hookedAt (m .hook) (hole .row) (withRow (hole .row) (rowAt t (pred (h .count))) t) else t)
         go true hook t = rw (hook refl)
         go false hook t = refl
 

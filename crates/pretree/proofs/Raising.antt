@@ -6,7 +6,7 @@ use mathlib.Core.List.{List, [], _∷_}
 use native.Mathlib.Nat.{le-trans, le-refl, le-of-lt, lt-of-lt-of-le, pos-of-ne-zero}
 use native.Mathlib.Omega.{arith}
 use lib.Dec.{ltb, leb, eqb}
-use lib.ListN.{length, length-set}
+use lib.ListN.{length}
 use borrow.Author.Tests.{ltb-true, leb-true, eqb-false}
 use Rattle.ordered.specs.Such.{if_then_else_}
 use Rattle.ordered.specs.Word.{Side, left, right, bitOf}
@@ -23,7 +23,7 @@ use Rattle.pretree.specs.Add.{taking}
 use Rattle.pretree.specs.Erased.{beneath, raising, Rises}
 use Rattle.pretree.proofs.Unfolding.{is-damaged, is-row}
 use Rattle.pretree.proofs.Falling.{down-says}
-use Rattle.pretree.proofs.Writing.{other-row}
+use Rattle.pretree.proofs.Writing.{same-capacity, key-length, other-row}
 
 -- the link that the way follows is the one below, and there is one
 record Follows (r : Row) (s : Side) (below : ℕ) : Type 0 where
@@ -135,10 +135,6 @@ pub record Raises (start : List ℕ) (from steps : ℕ) (table : List ℕ) (at l
   pub same : (i : ℕ) → rowAt start at .entry .key ≤ rowAt start i .entry .key → rowAt table i ≡ rowAt start i
   pub long : length table ≡ length start
 
-pub same-capacity : (a b : List ℕ) → length a ≡ length b → capacity a ≡ capacity b
-unfolding capacity
-same-capacity a b e = rw e
-
 pub raises-first : (start : List ℕ) (from steps : ℕ) → Rises (rowAt start) (capacity start) steps from → Raises start from steps start from steps
 raises-first start from steps h = record { rises = h; rest = refl; same = λ i l. refl; long = refl }
 
@@ -146,10 +142,6 @@ pub first-used : (rows : ℕ → Row) (n s i : ℕ) → Rises rows n s i → i <
 unfolding Rises
 first-used rows n zero i h = h
 first-used rows n (suc s) i h = h .0
-
-key-length : (i k : ℕ) (table : List ℕ) → length (withKey i k table) ≡ length table
-unfolding withKey
-key-length i k table = simp length-set
 
 module _ (start : List ℕ) (from steps : ℕ) (table : List ℕ) (at left : ℕ) (more : left ≡ 0 → ⊥) (k : Raises start from steps table at left) where
   abbrev next : ℕ

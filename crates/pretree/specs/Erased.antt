@@ -1,7 +1,7 @@
 -- What the small functions of `src/erase.rt` do, and what `del` has judged before it writes.
 use Prim.Native.Nat.{ℕ, zero, suc, pred, _%_, _<_}
 use mathlib.Core.Path.{_≡_}
-use mathlib.Core.Bool.{Bool, true, false, not, _&&_, _||_}
+use mathlib.Core.Bool.{true, false, not, _&&_, _||_}
 use mathlib.Core.List.{List, [], _∷_}
 use lib.Dec.{ltb, eqb}
 use Rattle.ordered.specs.Such.{if_then_else_, Perhaps}
@@ -10,28 +10,14 @@ use Rattle.ordered.specs.Way.{Step, rows, broken}
 use Rattle.ordered.specs.Change.{Take, Erasing, above-end}
 use Rattle.pretree.specs.declared.Header.{Header}
 use Rattle.pretree.specs.declared.Row.{Row}
-use Rattle.pretree.specs.declared.walk.Stage.{Stage}
-use Rattle.pretree.specs.declared.walk.Stage.the-variants.{On, AtNone, AtRow, AtDamage}
+use Rattle.pretree.specs.declared.walk.Stage.the-variants.{On}
 use Rattle.pretree.specs.declared.walk.Walk.{Walk}
 use Rattle.pretree.specs.declared.erase.Hook.{Hook}
 use Rattle.pretree.specs.declared.erase.Hole.{Hole}
 use Rattle.pretree.specs.declared.erase.Move.{Move}
-use Rattle.pretree.specs.Table.{capacity, rowAt, withLink, withRow, cleared}
+use Rattle.pretree.specs.Table.{capacity, rowAt, hooked, withRow, cleared}
 use Rattle.pretree.specs.Add.{taking, hooking}
 use Rattle.pretree.specs.Del.{secondWay, astray}
-
-abbrev pub isDamage : Stage → Bool
-isDamage On = false
-isDamage AtNone = false
-isDamage AtRow = false
-isDamage AtDamage = true
-
--- the end is a row, and a is b there
-abbrev pub endsAt : ℕ → ℕ → Stage → Bool
-endsAt a b On = false
-endsAt a b AtNone = false
-endsAt a b AtRow = eqb a b
-endsAt a b AtDamage = false
 
 -- the walk wants the row at which it ended, with nothing remembered aside
 abbrev pub restarted : Walk → Walk
@@ -54,16 +40,16 @@ restarted w =
 abbrev pub hookOf : Walk → ℕ → Hook
 hookOf w width = record { linked = ltb (w .bits) width; above = w .above; side = w .path % 2 }
 
-unfoldable pub hooked : Hook → ℕ → List ℕ → List ℕ
-hooked k i table = if k .linked then withLink (k .above) (sideOf (k .side)) i table else table
+abbrev pub hookedAt : Hook → ℕ → List ℕ → List ℕ
+hookedAt k i table = hooked (k .linked) (k .above) (sideOf (k .side)) i table
 
 -- the hook is that of a step
 abbrev pub Hooks : Perhaps Step → Hook → Type 0
-Hooks p k = (i : ℕ) (table : List ℕ) → hooking p i table ≡ hooked k i table
+Hooks p k = (i : ℕ) (table : List ℕ) → hooking p i table ≡ hookedAt k i table
 
 -- and its row is one of the first n
 abbrev pub Hangs : ℕ → Hook → Type 0
-Hangs n k = k .linked ≡ true → (k .above < n) × (k .side < 2)
+Hangs n k = (k .linked ≡ true → k .above < n) × (k .side < 2)
 
 -- "down by left link, else right link"
 abbrev pub beneath : Row → ℕ
@@ -106,10 +92,10 @@ pub record Within (table : List ℕ) (hole : Hole) : Type 0 where
 
 -- the last row, in the hole
 unfoldable pub filled : ℕ → ℕ → Move → List ℕ → List ℕ
-filled hole last m table = if m .needed then hooked (m .hook) hole (withRow hole (rowAt table last) table) else table
+filled hole last m table = if m .needed then hookedAt (m .hook) hole (withRow hole (rowAt table last) table) else table
 
 -- keys up, unlink, move, set the link, clear
 unfoldable pub emptied : ℕ → Hole → Move → List ℕ → List ℕ
 emptied last hole m table =
     withRow last cleared
-    (filled (hole .row) last m (hooked (hole .hook) 0 (taking (raising (rowAt table) (hole .steps) (hole .from)) table)))
+    (filled (hole .row) last m (hookedAt (hole .hook) 0 (taking (raising (rowAt table) (hole .steps) (hole .from)) table)))

@@ -11,8 +11,8 @@ use crate::seek::way_of;
 use crate::table::row_at;
 use crate::walk::Stage;
 use crate::walk::Walk;
+use crate::write::hook;
 use crate::write::put_entry;
-use crate::write::put_link;
 use crate::write::put_row;
 ghost use mathlib.Core.Path.{_≡_};
 ghost use mathlib.Core.Bool.{true, false};
@@ -24,7 +24,8 @@ ghost use Rattle.pretree.specs.Reply.{wrong-header, too-wide};
 ghost use Rattle.pretree.specs.Walk.{seeking, Walked};
 ghost use Rattle.pretree.specs.Add.{taking};
 ghost use Rattle.pretree.specs.Del.{delOutcome};
-ghost use Rattle.pretree.specs.Erased.{isDamage, endsAt, restarted, hookOf, hooked, Hangs, beneath, raising, Rises, Hollow, Moves, Within, filled, emptied};
+ghost use Rattle.pretree.specs.Resume.{endsAt};
+ghost use Rattle.pretree.specs.Erased.{restarted, hookOf, Hangs, beneath, raising, Rises, Hollow, Moves, Within, filled, emptied};
 
 // Where the end of a way is linked: the row above it, and the side to which the way turned there. The root is linked nowhere.
 pub struct Hook {
@@ -72,11 +73,10 @@ impl Header {
         ensures table { λ r. ⌜ now (table .exit) ≡ delOutcome self (now (table .entry)) word .table ⌝ }
     {
         let w = way_of(table, self, word, word as u64);
-        let stage = w.stage;
-        if ends_at(word, w.key, stage) {
+        if w.ends_at(word) {
             return self.hollowed(table, word, w);
         }
-        if is_damaged(stage) {
+        if w.is_damaged() {
             return self.refused(Answer::Damage);
         }
         self.answered(Answer::NoSuchWord, w.rows(self.width))
@@ -92,8 +92,7 @@ impl Header {
         ensures table { λ r. ⌜ now (table .exit) ≡ delOutcome self (now (table .entry)) word .table ⌝ }
     {
         let s = fallen(table, restarted(w), 0);
-        let stage = s.stage;
-        if is_damaged(stage) {
+        if s.is_damaged() {
             return self.refused(Answer::Damage);
         }
         let hole = Hole {
@@ -155,8 +154,7 @@ impl Header {
         }
         let key = row_at(table, last).entry.key;
         let w = way_of(table, self, key, key as u64);
-        let stage = w.stage;
-        let there = ends_at(key, w.key, stage);
+        let there = w.ends_at(key);
         Move {
             needed: true,
             astray: !(there & (w.row == last)),
@@ -174,7 +172,13 @@ fn shrink(table: &mut [u32], last: u32, hole: Hole, m: Move)
     ensures { λ _. ⌜ now (table .exit) ≡ emptied last hole m (now (table .entry)) ⌝ }
 {
     raise(table, hole.from, hole.steps);
-    set_link(table, hole.hook, Header::NONE);
+    hook(
+        table,
+        hole.hook.linked,
+        hole.hook.above,
+        hole.hook.side,
+        Header::NONE,
+    );
     fill(table, hole.row, last, m);
     let zeros = Row {
         entry: Entry { key: 0 },
@@ -192,18 +196,7 @@ fn fill(table: &mut [u32], hole: u32, last: u32, m: Move)
     if m.needed {
         let row = row_at(table, last);
         put_row(table, hole, row);
-        set_link(table, m.hook, hole);
-    }
-}
-
-fn set_link(table: &mut [u32], hook: Hook, link: u32)
-    requires { ⌜ Hangs (capacity (now table)) hook ⌝ }
-    ensures { λ _. ⌜ now (table .exit) ≡ hooked hook link (now (table .entry)) ⌝ }
-{
-    let above = hook.above;
-    let side = hook.side;
-    if hook.linked {
-        put_link(table, above, side, link);
+        hook(table, m.hook.linked, m.hook.above, m.hook.side, hole);
     }
 }
 
@@ -257,27 +250,5 @@ fn restarted(w: Walk) -> Walk
         beneath: w.beneath,
         any: false,
         stage: Stage::On,
-    }
-}
-
-fn is_damaged(stage: Stage) -> bool
-    ensures { λ r. ⌜ r ≡ isDamage stage ⌝ }
-{
-    match stage {
-        Stage::AtDamage => true,
-        Stage::On => false,
-        Stage::AtNone => false,
-        Stage::AtRow => false,
-    }
-}
-
-fn ends_at(a: u32, b: u32, stage: Stage) -> bool
-    ensures { λ r. ⌜ r ≡ endsAt a b stage ⌝ }
-{
-    match stage {
-        Stage::AtRow => a == b,
-        Stage::On => false,
-        Stage::AtNone => false,
-        Stage::AtDamage => false,
     }
 }

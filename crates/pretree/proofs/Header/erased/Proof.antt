@@ -1,7 +1,7 @@
 -- Where the way of the word ended.
-use mathlib.Core.Path.{refl}
+use mathlib.Core.Path.{refl, _∙_}
 use Rattle.pretree.proofs.Checks.{right-header}
-use Rattle.pretree.proofs.Erasing.{on-way-damage, not-there}
+use Rattle.pretree.proofs.Erasing.{on-damage, broken-above, not-there}
 use borrow.Author.Needs.{needs}
 use Rattle.pretree.proofs.Header.erased.Statement.{statement}
 use Rattle.pretree.proofs.Header.erased.Tie as tie
@@ -44,7 +44,8 @@ returns-2 c =
     let start = c .before .before .before .before .before .before .before .before in
     let a = start .args in
     let w = c .before .before .before .before .before .way-of in
-    let outcome = on-way-damage (a .self) (a .table .now) (a .word) (start .pre .0) (start .pre .1) (w .result) (w .ensures) (cc) (cc) in
+    let broken = broken-above (a .self) (a .table .now) (a .word) (start .pre .0) (start .pre .1) (w .result) (w .ensures) (cc) in
+    let outcome = on-damage (a .self) (a .table .now) (a .word) (start .pre .0) (start .pre .1) (broken ∙ (cc)) in
     rw outcome (c .refused .ensures, refl)
 
 rows-requires : tie.Need-rows-requires

@@ -2,7 +2,7 @@
 use mathlib.Core.Path.{_≡_, refl, _∙_}
 use mathlib.Core.Bool.{false}
 use native.Mathlib.Nat.{le-trans}
-use Rattle.pretree.specs.Erased.{isDamage}
+use Rattle.pretree.specs.Resume.{isDamage}
 use Rattle.pretree.proofs.Checks.{right-header}
 use Rattle.pretree.proofs.Erasing.{begun, some-rows, broken-below, hollow, within, on-damage}
 use borrow.Author.Needs.{needs}
@@ -41,8 +41,8 @@ returns c =
     let outcome = on-damage (a .self) (a .table .now) (a .word) (start .pre .0) (start .pre .1 .0) (broken ∙ (cc)) in
     rw outcome (c .refused .ensures, refl)
 
-sub-t13 : tie.Need-sub-t13
-sub-t13 c =
+sub-t12 : tie.Need-sub-t12
+sub-t12 c =
     let start = c .before .before .before .before .before .before .before .before in
     let a = start .args in
     let s = c .before .before .before .before .fallen in
@@ -102,7 +102,7 @@ hollowed-spec =
     refused-requires
     same-length
     returns
-    sub-t13
+    sub-t12
     hook-of-requires
     rows-requires
     filled-requires

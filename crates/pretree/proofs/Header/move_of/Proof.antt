@@ -17,7 +17,7 @@ returns : tie.Need-returns
 returns c =
     let start = c .before .before .before in
     let a = start .args in
-    (nothing-moves (a .self) (a .table .now) (start .pre .0) (a .hole) _ (c .if1 .taken ∙ sub-one _), λ never. absurd (true≢false (sym never)))
+    (nothing-moves (a .self) (a .table .now) (start .pre .0) (a .hole) _ (c .if1 .taken ∙ sub-one _), (λ never. absurd (true≢false (sym never)), omega arith))
 
 row-at-requires : tie.Need-row-at-requires
 row-at-requires c κs =

@@ -2,7 +2,7 @@
 use mathlib.Core.Path.{_≡_}
 use mathlib.Core.Bool.{true, false}
 use Rattle.pretree.specs.Erased.{filled}
-use Rattle.pretree.proofs.Raising.{same-capacity}
+use Rattle.pretree.proofs.Writing.{same-capacity}
 use borrow.Author.Needs.{needs}
 use Rattle.pretree.proofs.erase.fill.Statement.{statement}
 use Rattle.pretree.proofs.erase.fill.Tie as tie
@@ -13,8 +13,8 @@ row-at-requires c κs = search needs
 put-row-requires : tie.Need-put-row-requires
 put-row-requires c κs = search needs
 
-set-link-requires : tie.Need-set-link-requires
-set-link-requires c κs =
+hook-requires : tie.Need-hook-requires
+hook-requires c κs =
     let start = c .before .before .before .before .before .before .before .before .before in
     let put = c .before .before .before .put-row in
     let room = same-capacity (put .last .0) (start .args .table .now) (put .kept .0) in
@@ -38,4 +38,4 @@ returns-2 c =
 pub fill-spec : {M : Type 1} → statement M
 fill-spec =
     tie.close
-    (tie.spec row-at-requires put-row-requires set-link-requires same-length returns returns-2)
+    (tie.spec row-at-requires put-row-requires hook-requires same-length returns returns-2)
