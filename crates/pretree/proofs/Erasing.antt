@@ -44,7 +44,7 @@ damage-told : (rows : ℕ → Row) (f : Rule) (width count : ℕ) (tree : Tree) 
     → isDamaged (way f width tree .end) ≡ isDamage (w .stage)
 damage-told rows f width count tree w k =
     let on : Going rows f width count (way f width tree) w
-    = record { goes = k .walking .goes; placed = k .walking .placed; fits = k .walking .fits; same-count = k .walking .same-count } in
+    = record { goes = k .walking .goes; placed = k .walking .placed; memory = k .walking .memory; fits = k .walking .fits; same-count = k .walking .same-count } in
     told rows f width count (way f width tree) w (k .ended) on .damage
 
 -- where a way that a walk remembers is linked
