@@ -1,0 +1,6 @@
+-- What a line means, what a reply looks like, and what the whole output is for a whole input. Read in this order.
+pub mod Text
+pub mod Line
+pub mod Render
+pub mod Output
+pub mod Example
