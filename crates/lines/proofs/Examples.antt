@@ -15,13 +15,13 @@ use Rattle.pretree.specs.Find.{hasReply, nextReply, prevReply}
 use Rattle.pretree.specs.Add.{addOutcome, grown, taking}
 use Rattle.pretree.specs.Del.{delOutcome, secondWay, astray, moving, shrunk}
 use Rattle.pretree.specs.Whole.{newReply, newTable, listReply, listBuffer}
-use Rattle.lines.specs.Line.{parse, readAsOne, readAs, after, number, isNumber, areDigits, spelt}
+use Rattle.lines.specs.Line.{parse, after, number, isNumber, areDigits, spelt}
 use Rattle.lines.specs.Render.{digits, digitsWithin, replyLine, keyLine, keyLines}
 use Rattle.lines.specs.Output.{run, answer, writtenFor, ended, unended, linesOf, output}
 use Rattle.lines.specs.Example.{given, wanted}
 
 pub example-agrees : output given ≡ wanted
-unfolding parse readAsOne readAs after number isNumber areDigits spelt digits digitsWithin replyLine keyLine keyLines
+unfolding parse after number isNumber areDigits spelt digits digitsWithin replyLine keyLine keyLines
     run answer writtenFor ended unended linesOf output
     hasReply nextReply prevReply has next prev last gap numberOf keyOf
     shown unfolded rowAt capacity wrong-header too-wide rowsOf brokenIn way rows broken following passing-equal down staying last-such side

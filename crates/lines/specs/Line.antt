@@ -12,6 +12,8 @@ use Rattle.lines.specs.declared.Call.{Call}
 use Rattle.lines.specs.declared.Call.the-variants.{New, Add, Del, Has, Next, Prev, Gap, First, Last, Audit}
 use Rattle.lines.specs.declared.Line.{Line}
 use Rattle.lines.specs.declared.Line.the-variants.{Read, Unread}
+use Rattle.lines.specs.declared.Number.{Number}
+use Rattle.lines.specs.declared.Number.the-variants.{Of, Nothing}
 use Rattle.lines.specs.Text.{bytes}
 
 -- the digits `0` to `9`
@@ -40,6 +42,10 @@ isNumber ds =
 
 unfoldable pub number : List ℕ → Perhaps ℕ
 number ds = if isNumber ds then such (spelt 0 ds) else no-such
+
+abbrev pub asNumber : Perhaps ℕ → Number
+asNumber no-such = Nothing
+asNumber (such k) = Of k
 
 -- what stands after a word with which a line begins
 unfoldable pub after : List ℕ → List ℕ → Perhaps (List ℕ)
@@ -79,18 +85,19 @@ abbrev pub if-nothing : Call → List ℕ → Perhaps Call
 if-nothing call [] = such call
 if-nothing call (b ∷ rest) = no-such
 
-unfoldable pub readAs : Form → List ℕ → Perhaps Call
-readAs (with-number word call) line = with-rest (λ rest. called call (number rest)) (after (bytes word ++ bytes "\t") line)
-readAs (alone word call) line = with-rest (if-nothing call) (after (bytes word) line)
+-- the call of a form, by what stands behind a word
+abbrev pub readAs : (List ℕ → Perhaps (List ℕ)) → Form → Perhaps Call
+readAs behind (with-number word call) = with-rest (λ rest. called call (number rest)) (behind (bytes word ++ bytes "\t"))
+readAs behind (alone word call) = with-rest (if-nothing call) (behind (bytes word))
 
--- the call of the first form that the line has
-unfoldable pub readAsOne : List Form → List ℕ → Perhaps Call
-readAsOne [] line = no-such
-readAsOne (f ∷ fs) line = first-of (readAs f line) (readAsOne fs line)
+-- the call of the first form that fits
+abbrev pub firstRead : (List ℕ → Perhaps (List ℕ)) → List Form → Perhaps Call
+firstRead behind [] = no-such
+firstRead behind (f ∷ fs) = first-of (readAs behind f) (firstRead behind fs)
 
 abbrev pub lineOf : Perhaps Call → Line
 lineOf no-such = Unread
 lineOf (such call) = Read call
 
 unfoldable pub parse : List ℕ → Line
-parse line = if ltb 64 (length line) then Unread else lineOf (readAsOne operations line)
+parse line = if ltb 64 (length line) then Unread else lineOf (firstRead (λ word. after word line) operations)

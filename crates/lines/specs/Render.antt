@@ -7,13 +7,14 @@ use mathlib.Core.List.{List, [], _∷_, _++_}
 use lib.Dec.{ltb}
 use lib.ListN.{length}
 use lib.Seq.{sets}
-use Rattle.ordered.specs.Such.{if_then_else_, Perhaps, no-such, such}
+use Rattle.ordered.specs.Such.{if_then_else_}
 use Rattle.pretree.specs.declared.Reply.{Reply}
 use Rattle.pretree.specs.Answer.{numberOf, keyOf}
 use Rattle.lines.specs.declared.Number.{Number}
 use Rattle.lines.specs.declared.Number.the-variants.{Of, Nothing}
 use Rattle.lines.specs.declared.Said.{Said}
 use Rattle.lines.specs.Text.{bytes}
+use Rattle.lines.specs.Line.{asNumber}
 
 abbrev pub digit : ℕ → ℕ
 digit d = 48 + d
@@ -29,10 +30,6 @@ digitsWithin (suc k) n =
 -- a number in decimal, without leading zeros. It has no more digits than n + 1.
 unfoldable pub digits : ℕ → List ℕ
 digits n = digitsWithin (suc n) n
-
-abbrev pub asNumber : Perhaps ℕ → Number
-asNumber no-such = Nothing
-asNumber (such k) = Of k
 
 -- "key or `-`"
 abbrev pub keyText : Number → List ℕ

@@ -1,6 +1,8 @@
 // The line language of the bench: reading a line, and writing the reply to it.
 // Document 01, "The line program".
 
+mod parse;
+
 // A call that a line asks for.
 pub enum Call {
     New(u32),
