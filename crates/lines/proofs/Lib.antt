@@ -1,5 +1,9 @@
 pub mod Tests
 pub mod Numbers
 pub mod Heads
+pub mod Digits
+pub mod Puts
+pub mod Spelling
+pub mod KeyLines
 pub mod Pieces
 pub mod Examples

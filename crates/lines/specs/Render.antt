@@ -31,10 +31,14 @@ digitsWithin (suc k) n =
 unfoldable pub digits : ℕ → List ℕ
 digits n = digitsWithin (suc n) n
 
--- "key or `-`"
-abbrev pub keyText : Number → List ℕ
-keyText Nothing = bytes "-"
-keyText (Of k) = digits k
+-- a tab and a number
+abbrev pub field : ℕ → List ℕ
+field n = bytes "\t" ++ digits n
+
+-- a tab and "key or `-`"
+abbrev pub keyField : Number → List ℕ
+keyField Nothing = bytes "\t-"
+keyField (Of k) = field k
 
 -- what a reply line says behind its line number
 abbrev pub saidOf : Reply → Said
@@ -45,12 +49,10 @@ abbrev pub notRead : Said
 notRead = record { answer = 9; key = Nothing; rows = 0; moved = 0 }
 
 unfoldable pub replyLine : ℕ → Said → List ℕ
-replyLine line s =
-    digits line ++ (bytes "\t" ++ digits (s .answer)) ++ (bytes "\t" ++ keyText (s .key)) ++ (bytes "\t" ++ digits (s .rows))
-    ++ (bytes "\t" ++ digits (s .moved)) ++ bytes "\n"
+replyLine line s = digits line ++ field (s .answer) ++ keyField (s .key) ++ field (s .rows) ++ field (s .moved) ++ bytes "\n"
 
 unfoldable pub keyLine : ℕ → List ℕ
-keyLine k = bytes "key\t" ++ digits k ++ bytes "\n"
+keyLine k = bytes "key" ++ field k ++ bytes "\n"
 
 unfoldable pub keyLines : List ℕ → List ℕ
 keyLines [] = []

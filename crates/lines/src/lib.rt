@@ -2,6 +2,7 @@
 // Document 01, "The line program".
 
 mod parse;
+mod put;
 
 // A call that a line asks for.
 pub enum Call {
