@@ -3,6 +3,7 @@
 
 mod parse;
 mod put;
+mod reply;
 
 // A call that a line asks for.
 pub enum Call {
