@@ -6,4 +6,5 @@ pub mod Puts
 pub mod Spelling
 pub mod KeyLines
 pub mod Pieces
+pub mod Gathering
 pub mod Examples

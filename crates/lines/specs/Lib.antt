@@ -4,4 +4,5 @@ pub mod Line
 pub mod Head
 pub mod Render
 pub mod Output
+pub mod Gather
 pub mod Example

@@ -1,6 +1,7 @@
 // The line language of the bench: reading a line, and writing the reply to it.
 // Document 01, "The line program".
 
+mod gather;
 mod parse;
 mod put;
 mod reply;
