@@ -100,14 +100,14 @@ module _ {before : List ℕ} {count : ℕ} {part : List ℕ} {most : ℕ} {buffe
   pub all-copied : most ≤ i → Put before count (take (length before - count) part) buffer (count + most)
   all-copied h =
       let e : take i part ≡ take (length before - count) part =
-          ⊎-elim
-          (λ (t : ltb (length before - count) (length part) ≡ true).
-          let q : i ≡ length before - count = omega (arith, ltb-true) in ap (λ (n : ℕ). take n part) q)
-          (λ (f : ltb (length before - count) (length part) ≡ false).
-          let q : length part ≤ i = omega (arith, ltb-false) in
-          let r : length part ≤ length before - count = ltb-false _ _ f in
-          take-all i part q ∙ sym (take-all (length before - count) part r))
-          (either (ltb (length before - count) (length part))) in
+      ⊎-elim
+      (λ (t : ltb (length before - count) (length part) ≡ true).
+      let q : i ≡ length before - count = omega (arith, ltb-true) in ap (λ (n : ℕ). take n part) q)
+      (λ (f : ltb (length before - count) (length part) ≡ false).
+      let q : length part ≤ i = omega (arith, ltb-false) in
+      let r : length part ≤ length before - count = ltb-false _ _ f in
+      take-all i part q ∙ sym (take-all (length before - count) part r))
+      (either (ltb (length before - count) (length part))) in
       record { content = rw e at (s .put .content); place = rw (← e) (omega (arith, s .put .place)) }
 
 -- what is held of a line, with a part more behind it
@@ -130,10 +130,10 @@ module _ {buffer : List ℕ} {count : ℕ} {line : List ℕ} (h : Held buffer co
       let fits : count + length more ≤ length buffer = omega (arith, few-held, length-take (65 - count) part) in
       let both : take 65 (line ++ part) ≡ take 65 line ++ more = rw (h .number) (take-both 65 line part) in
       let front : length (take count buffer ++ more) ≡ next =
-          rw length-append (omega (arith, length-take-le count buffer (omega (arith, few-held)), rw size at (p .place))) in
+      rw length-append (omega (arith, length-take-le count buffer (omega (arith, few-held)), rw size at (p .place))) in
       let all : after ≡ (take count buffer ++ more) ++ drop (count + length more) buffer = rw size at (p .content) ∙ sets-eq more buffer count fits in
       let taken : take next after ≡ take 65 (line ++ part) =
-          rw (all, both, ← h .content) (take-at (take count buffer ++ more) (drop (count + length more) buffer) next front) in
+      rw (all, both, ← h .content) (take-at (take count buffer ++ more) (drop (count + length more) buffer) next front) in
       record { content = taken; number = rw (both, ← h .content) (sym front) }
 
 pub parse-held : (line : List ℕ) → parse (take 65 line) ≡ parse line

@@ -2,9 +2,11 @@ pub mod Tests
 pub mod Numbers
 pub mod Heads
 pub mod Digits
+pub mod ReadBack
 pub mod Puts
 pub mod Spelling
 pub mod KeyLines
+pub mod Bounds
 pub mod Pieces
 pub mod Gathering
 pub mod Examples

@@ -27,11 +27,7 @@ pub fn hold(buffer: &mut [u8], count: usize, part: &[u8]) -> usize
     ensures { λ r. ⌜ Put (now (buffer .entry)) count (take (length (now (buffer .entry)) - count) (now (part .entry))) (now (buffer .exit)) r ⌝ }
 {
     let room = buffer.len() - count;
-    let most = if part.len() < room {
-        part.len()
-    } else {
-        room
-    };
+    let most = if part.len() < room { part.len() } else { room };
     let mut i: usize = 0;
     while i < most {
         buffer[count + i] = part[i];
