@@ -1,4 +1,4 @@
--- The example of document 01, "The line program", is what the definitions give.
+-- The example of document 01, "The line program", is what the definitions give; and so are lines at the edges of the language.
 use mathlib.Core.Path.{_≡_, refl}
 use Rattle.ordered.specs.Such.{last-such}
 use Rattle.ordered.specs.Word.{side}
@@ -11,14 +11,16 @@ use Rattle.pretree.specs.Unfold.{unfolded, shown}
 use Rattle.pretree.specs.Sound.{isSound}
 use Rattle.pretree.specs.Answer.{numberOf, keyOf}
 use Rattle.pretree.specs.Reply.{wrong-header, too-wide}
-use Rattle.pretree.specs.Find.{hasReply, nextReply, prevReply}
+use Rattle.pretree.specs.Find.{hasReply, nextReply, prevReply, firstReply}
 use Rattle.pretree.specs.Add.{addOutcome, grown, taking}
 use Rattle.pretree.specs.Del.{delOutcome, secondWay, astray, moving, shrunk}
 use Rattle.pretree.specs.Whole.{newReply, newTable, listReply, listBuffer}
 use Rattle.lines.specs.Line.{parse, after, number, isNumber, areDigits, spelt}
 use Rattle.lines.specs.Render.{digits, digitsWithin, replyLine, keyLine, keyLines}
 use Rattle.lines.specs.Output.{run, answer, writtenFor, ended, unended, linesOf, output}
-use Rattle.lines.specs.Example.{given, wanted}
+use Rattle.ordered.specs.Example.{All-agree}
+use Rattle.lines.specs.Text.{bytes}
+use Rattle.lines.specs.Example.{given, wanted, readings}
 
 pub example-agrees : output given ≡ wanted
 unfolding parse after number isNumber areDigits spelt digits digitsWithin replyLine keyLine keyLines
@@ -28,3 +30,13 @@ unfolding parse after number isNumber areDigits spelt digits digitsWithin replyL
     addOutcome adding pushed left-over grown taking withKey withLink withRow
     delOutcome secondWay astray moving shrunk raised erasing newReply newTable listReply listBuffer isSound intact size listing pushing joined
 example-agrees = refl
+
+-- "or at the end of input if bytes are left"
+pub last-line-agrees : output (bytes "\nfirst") ≡ bytes "1\t9\t-\t0\t0\n2\t2\t-\t0\t0\n"
+unfolding parse after number isNumber areDigits spelt digits digitsWithin replyLine keyLine keyLines run answer writtenFor ended unended linesOf output
+    firstReply numberOf keyOf wrong-header
+last-line-agrees = refl
+
+pub readings-agree : All-agree readings
+unfolding parse after number isNumber areDigits spelt
+readings-agree = refl

@@ -1,9 +1,15 @@
--- The example of document 01, "The line program": its input and its whole output. That the definitions give it is shown in
--- proofs/Examples.antt.
+-- The example of document 01, "The line program": its input and its whole output; and lines at the edges of the language. That the
+-- definitions give it is shown in proofs/Examples.antt.
 use Prim.Native.Nat.{ℕ}
 use Prim.Native.String.{String}
 use mathlib.Core.List.{List, [], _∷_, _++_}
+use Rattle.ordered.specs.Example.{Example, _is_}
+use Rattle.lines.specs.declared.Call.{Call}
+use Rattle.lines.specs.declared.Call.the-variants.{New, Add, Del, Has, Next, Prev, Gap, First, Last, Audit}
+use Rattle.lines.specs.declared.Line.{Line}
+use Rattle.lines.specs.declared.Line.the-variants.{Read, Unread}
 use Rattle.lines.specs.Text.{bytes}
+use Rattle.lines.specs.Line.{parse}
 
 abbrev pub linesAs : List String → List ℕ
 linesAs [] = []
@@ -43,3 +49,43 @@ wanted =
     "key\t4" ∷
     "key\t11" ∷
     "key\t15" ∷ [])
+
+-- each operation, and lines that are not read
+abbrev pub readings : List (Example Line)
+readings =
+    parse (bytes "new\t4") is Read (New 4)
+    ∷ parse (bytes "add\t0") is Read (Add 0)
+    ∷ parse (bytes "del\t8") is Read (Del 8)
+    ∷ parse (bytes "has\t4294967295") is Read (Has 4294967295)
+    ∷ parse (bytes "next\t11") is Read (Next 11)
+    ∷ parse (bytes "prev\t15") is Read (Prev 15)
+    ∷ parse (bytes "gap\t9") is Read (Gap 9)
+    ∷ parse (bytes "first") is Read First
+    ∷ parse (bytes "last") is Read Last
+    ∷ parse (bytes "list") is Read Call.List
+    ∷ parse (bytes "audit") is Read Audit
+    ∷ parse (bytes "") is Unread
+    ∷ parse (bytes "n") is Unread
+    ∷ parse (bytes "new") is Unread
+    ∷ parse (bytes "new\t") is Unread
+    ∷ parse (bytes "new 4") is Unread
+    ∷ parse (bytes "new\t\t4") is Unread
+    ∷ parse (bytes "new\t04") is Unread
+    ∷ parse (bytes "new\t00") is Unread
+    ∷ parse (bytes "new\t-4") is Unread
+    ∷ parse (bytes "new\t4 ") is Unread
+    ∷ parse (bytes "new\t4\r") is Unread
+    ∷ parse (bytes "has\t4294967296") is Unread
+    ∷ parse (bytes "has\t00000000001") is Unread
+    ∷ parse (bytes "has\t10000000000") is Unread
+    ∷ parse (bytes "first\t") is Unread
+    ∷ parse (bytes "first\t1") is Unread
+    ∷ parse (bytes "firs") is Unread
+    ∷ parse (bytes "firstly") is Unread
+    ∷ parse (bytes "nexta") is Unread
+    ∷ parse (bytes "next4") is Unread
+    ∷ parse (bytes " list") is Unread
+    ∷ parse (bytes "List") is Unread
+    ∷ parse (bytes "lists") is Unread
+    ∷ parse (bytes "clear") is Unread
+    ∷ []
