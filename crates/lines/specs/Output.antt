@@ -38,34 +38,26 @@ pub record Outcome : Type 0 where
   pub buffer : List ℕ
   pub listed : ℕ
 
-abbrev pub reading : State → Reply → Outcome
-reading s r = record { reply = r; table = s .table; buffer = s .buffer; listed = 0 }
-
-abbrev pub changing : State → Reply → List ℕ → Outcome
-changing s r table = record { reply = r; table = table; buffer = s .buffer; listed = 0 }
+-- a call that lists nothing
+abbrev pub leaving : List ℕ → List ℕ → Reply → Outcome
+leaving table buffer r = record { reply = r; table = table; buffer = buffer; listed = 0 }
 
 -- "After a `list` with answer 0"
-abbrev pub listing : State → Reply → List ℕ → Outcome
-listing s r buffer =
-    record {
-      reply = r;
-      table = s .table;
-      buffer = buffer;
-      listed = if eqb (numberOf (r .answer)) 0 then r .header .count else 0;
-    }
+abbrev pub listedIn : Reply → ℕ
+listedIn r = if eqb (numberOf (r .answer)) 0 then r .header .count else 0
 
-unfoldable pub run : State → Call → Outcome
-run s (New width) = changing s (newReply (s .header) width) (newTable (s .table) width)
-run s (Add k) = changing s (addOutcome (s .header) (s .table) k .reply) (addOutcome (s .header) (s .table) k .table)
-run s (Del k) = changing s (delOutcome (s .header) (s .table) k .reply) (delOutcome (s .header) (s .table) k .table)
-run s (Has k) = reading s (hasReply (s .header) (s .table) k)
-run s (Next k) = reading s (nextReply (s .header) (s .table) k)
-run s (Prev k) = reading s (prevReply (s .header) (s .table) k)
-run s (Gap k) = reading s (gapReply (s .header) (s .table) k)
-run s First = reading s (firstReply (s .header) (s .table))
-run s Last = reading s (lastReply (s .header) (s .table))
-run s Call.List = listing s (listReply (s .header) (s .table) (s .buffer)) (listBuffer (s .header) (s .table) (s .buffer))
-run s Audit = reading s (auditReply (s .header) (s .table))
+unfoldable pub run : Header → List ℕ → List ℕ → Call → Outcome
+run h t b (New width) = leaving (newTable t width) b (newReply h width)
+run h t b (Add k) = leaving (addOutcome h t k .table) b (addOutcome h t k .reply)
+run h t b (Del k) = leaving (delOutcome h t k .table) b (delOutcome h t k .reply)
+run h t b (Has k) = leaving t b (hasReply h t k)
+run h t b (Next k) = leaving t b (nextReply h t k)
+run h t b (Prev k) = leaving t b (prevReply h t k)
+run h t b (Gap k) = leaving t b (gapReply h t k)
+run h t b First = leaving t b (firstReply h t)
+run h t b Last = leaving t b (lastReply h t)
+run h t b Call.List = record { reply = listReply h t b; table = t; buffer = listBuffer h t b; listed = listedIn (listReply h t b) }
+run h t b Audit = leaving t b (auditReply h t)
 
 -- the state after a line, and what is written for it
 pub record Step : Type 0 where
@@ -79,7 +71,7 @@ answer s Unread =
       written = replyLine (suc (s .lines)) notRead;
     }
 answer s (Read call) =
-    let o : Outcome = run s call in
+    let o : Outcome = run (s .header) (s .table) (s .buffer) call in
     record {
       state = record { header = o .reply .header; table = o .table; buffer = o .buffer; lines = suc (s .lines) };
       written = replyLine (suc (s .lines)) (saidOf (o .reply)) ++ keyLines (take (o .listed) (o .buffer));
