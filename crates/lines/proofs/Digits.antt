@@ -10,7 +10,7 @@ use borrow.Author.Tests.{lt-ltb, le-ltb, ltb-true, ltb-false}
 use lib.Dec.{ltb}
 use lib.ListN.{length, length-append}
 use Rattle.ordered.specs.Such.{if_then_else_}
-use Rattle.lines.specs.Render.{digit, digitsWithin, digits}
+use Rattle.lines.specs.Render.{digit, digitsWithin, digits, field}
 use Rattle.lines.proofs.Tests.{either}
 
 -- with one place more than is used, the last digit comes off
@@ -74,3 +74,6 @@ few-places (suc k) n h =
     let p : 10 ^ suc (suc k) ≡ 10 ^ suc k * 10 = pow-suc 10 (suc k) in
     omega (arith, more-places n m, few-places k (n / 10) (omega arith)))
     (either (ltb n 10))
+
+pub field-places : (n : ℕ) → n < 2 ^ 32 → length (field n) ≤ 11
+field-places n h = omega (arith, few-places 9 n (omega arith))

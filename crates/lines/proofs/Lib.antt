@@ -6,7 +6,6 @@ pub mod ReadBack
 pub mod Puts
 pub mod Spelling
 pub mod KeyLines
-pub mod Bounds
 pub mod Pieces
 pub mod Gathering
 pub mod Examples

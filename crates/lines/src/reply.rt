@@ -33,7 +33,7 @@ pub fn not_read() -> Said
     }
 }
 
-fn number_of(answer: Answer) -> u32
+pub fn number_of(answer: Answer) -> u32
     ensures { λ r. ⌜ r ≡ numberOf answer ⌝ }
 {
     match answer {

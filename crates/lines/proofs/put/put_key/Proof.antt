@@ -9,23 +9,20 @@ use Rattle.lines.proofs.put.put_key.Tie as tie
 enum-known-key : tie.Need-enum-known-key
 enum-known-key c = search needs
 
-cast-put-field : tie.Need-cast-put-field
-cast-put-field c = search needs
-
 put-field-requires : tie.Need-put-field-requires
-put-field-requires c κs = rw (c .before .before .key .given .1) at (c .before .before .before .before .before .pre)
+put-field-requires c κs = search needs
 
 enum-told : tie.Need-enum-told
 enum-told c = search needs
 
 slice-write-out : tie.Need-slice-write-out
-slice-write-out c = omega (arith, rw (c .enum-told .given .1) at (c .before .before .before .pre))
+slice-write-out c = search needs
 
 add-out : tie.Need-add-out
 add-out c = search needs
 
 slice-write-out-2 : tie.Need-slice-write-out-2
-slice-write-out-2 c = simp length-set (omega (arith, rw (c .enum-told .given .1) at (c .before .before .before .pre)))
+slice-write-out-2 c = simp length-set (omega arith)
 
 add-result : tie.Need-add-result
 add-result c = search needs
@@ -34,7 +31,7 @@ same-length : tie.Need-same-length
 same-length c = search needs
 
 returns : tie.Need-returns
-returns c = rw (c .before .before .before .before .before .key .given .1) (c .before .before .put-field .ensures)
+returns c = (rw (c .before .before .before .before .before .key .given .1) (c .before .before .put-field .ensures .0), omega arith)
 
 same-length-2 : tie.Need-same-length-2
 same-length-2 c = search needs
@@ -43,14 +40,13 @@ returns-2 : tie.Need-returns-2
 returns-2 c =
     let a = c .before .before .before .args in
     let p = put-then {out = a .out .now} {at = a .at} (put-byte 9) (put-byte 45) in
-    rw (c .enum-told .given .1) (record { content = p .content; place = omega arith })
+    (rw (c .enum-told .given .1) (record { content = p .content; place = omega arith }), omega arith)
 
 pub put-key-spec : {M : Type 1} → statement M
 put-key-spec =
     tie.close
     (tie.spec
     enum-known-key
-    cast-put-field
     put-field-requires
     enum-told
     slice-write-out

@@ -1,7 +1,7 @@
 -- The word `key`, a tab and a number, and the line's end.
 use mathlib.Core.Path.{_∙_}
 use native.Mathlib.Omega.{arith}
-use lib.ListN.{length-set, length-append}
+use lib.ListN.{length-set}
 use Rattle.lines.specs.Render.{keyLine}
 use Rattle.lines.proofs.Puts.{put-then, put-length, put-byte}
 use Rattle.lines.proofs.KeyLines.{put-key-word}
@@ -10,58 +10,40 @@ use Rattle.lines.proofs.put.put_key_line.Statement.{statement}
 use Rattle.lines.proofs.put.put_key_line.Tie as tie
 
 slice-write-out : tie.Need-slice-write-out
-unfolding keyLine
-slice-write-out c =
-    let room = simp length-append at (c .before .pre) in
-    omega (arith)
+slice-write-out c = search needs
 
 add-out : tie.Need-add-out
 add-out c = search needs
 
 slice-write-out-2 : tie.Need-slice-write-out-2
-unfolding keyLine
-slice-write-out-2 c =
-    let room = simp length-append at (c .before .pre) in
-    simp length-set (omega (arith))
+slice-write-out-2 c = simp length-set (omega arith)
 
 add-out-2 : tie.Need-add-out-2
 add-out-2 c = search needs
 
 slice-write-out-3 : tie.Need-slice-write-out-3
-unfolding keyLine
-slice-write-out-3 c =
-    let room = simp length-append at (c .before .pre) in
-    simp length-set (omega (arith))
+slice-write-out-3 c = simp length-set (omega arith)
 
 add-put-field : tie.Need-add-put-field
 add-put-field c = search needs
 
 put-field-requires : tie.Need-put-field-requires
-unfolding keyLine
-put-field-requires c κs =
-    let room = simp length-append at (c .before .before .pre) in
-    simp length-set (omega (arith))
+put-field-requires c κs = simp length-set (omega arith)
 
 slice-write-out-4 : tie.Need-slice-write-out-4
-unfolding keyLine
-slice-write-out-4 c =
-    let room = simp length-append at (c .before .before .before .before .before .pre) in
-    omega (arith, simp length-set at (put-length (c .before .before .put-field .ensures)))
+slice-write-out-4 c = omega (arith, simp length-set at (put-length (c .before .before .put-field .ensures .0)))
 
 add-result : tie.Need-add-result
-unfolding keyLine
-add-result c =
-    let room = simp length-append at (c .before .before .before .before .before .pre) in
-    omega (arith, simp length-set at (put-length (c .before .before .put-field .ensures)))
+add-result c = search needs
 
 same-length : tie.Need-same-length
-same-length c = simp length-set (put-length (c .before .before .put-field .ensures) ∙ simp length-set)
+same-length c = simp length-set (put-length (c .before .before .put-field .ensures .0) ∙ simp length-set)
 
 returns : tie.Need-returns
 unfolding keyLine
 returns c =
     let a = c .before .before .before .before .before .args in
-    put-then (put-then (put-key-word (a .out .now) (a .at)) (c .before .before .put-field .ensures)) (put-byte 10)
+    (put-then (put-then (put-key-word (a .out .now) (a .at)) (c .before .before .put-field .ensures .0)) (put-byte 10), omega arith)
 
 pub put-key-line-spec : {M : Type 1} → statement M
 put-key-line-spec =
