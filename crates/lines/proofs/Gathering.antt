@@ -36,11 +36,11 @@ module _ (input : List ℕ) (i : ℕ) where
     unfolding untilEnd
     until-on h = rw (drop-cons input i 0 within) (simp (ne-eqb (getD input i 0) 10 h))
 
-until-first : (b : ℕ) (input : List ℕ) → eqb b 10 ≡ true → untilEnd (b ∷ input) ≡ 0
+pub until-first : (b : ℕ) (input : List ℕ) → eqb b 10 ≡ true → untilEnd (b ∷ input) ≡ 0
 unfolding untilEnd
 until-first b input t = simp t
 
-until-later : (b : ℕ) (input : List ℕ) → eqb b 10 ≡ false → untilEnd (b ∷ input) ≡ suc (untilEnd input)
+pub until-later : (b : ℕ) (input : List ℕ) → eqb b 10 ≡ false → untilEnd (b ∷ input) ≡ suc (untilEnd input)
 unfolding untilEnd
 until-later b input f = simp f
 
