@@ -8,4 +8,7 @@ pub mod Spelling
 pub mod KeyLines
 pub mod Pieces
 pub mod Gathering
+pub mod Running
+pub mod Feeding
+pub mod Serving
 pub mod Examples

@@ -5,4 +5,6 @@ pub mod Head
 pub mod Render
 pub mod Output
 pub mod Gather
+pub mod Answering
+pub mod Serving
 pub mod Example

@@ -1,10 +1,15 @@
 // The line language of the bench: reading a line, and writing the reply to it.
 // Document 01, "The line program".
 
+mod answer;
 mod gather;
 mod parse;
 mod put;
 mod reply;
+mod serve;
+mod session;
+
+pub use serve::run;
 
 // A call that a line asks for.
 pub enum Call {

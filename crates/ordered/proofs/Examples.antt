@@ -9,6 +9,7 @@ use Rattle.ordered.specs.Word.{Side, left, right, side}
 use Rattle.ordered.specs.Tree.{Tree, none, row, treeOf, going}
 use Rattle.ordered.specs.Way.{Step, way, rows, joined, following, passing-equal, pushing, down, staying}
 use Rattle.ordered.specs.Reading.{Reading, rowsOf, has, next, prev, first, last, gap}
+use Rattle.ordered.specs.Grown.{grown, shrunk, pushed-tree, popped-tree, linked, shifted, lifted}
 use Rattle.ordered.specs.Change.{Take, Adding, Erasing, adding, erasing, pushed, left-over, raised}
 
 abbrev word : ℕ → ℕ → Tree → Tree → Tree
@@ -104,3 +105,19 @@ adds =
 adds-agree : All-agree adds
 unfolding adding pushed left-over way rows joined following pushing last-such side
 adds-agree = refl
+
+-- the trees that are left, with their row numbers; the new row is row 4
+abbrev left-trees : List (Example Tree)
+left-trees =
+    grown 4 4 12 A-numbered is word 0 4 none (word 1 8 (leaf 2 11) (word 3 12 none (leaf 4 15)))
+    ∷ grown 4 4 0 A-numbered is word 0 0 (leaf 4 4) (word 1 8 (leaf 2 11) (leaf 3 15))
+    ∷ grown 4 4 9 A-numbered is word 0 4 none (word 1 8 (word 2 9 none (leaf 4 11)) (leaf 3 15))
+    ∷ grown 4 4 11 A-numbered is A-numbered
+    ∷ shrunk 4 8 A-numbered is word 0 4 none (word 1 11 none (leaf 3 15))
+    ∷ shrunk 4 4 A-numbered is word 0 8 none (word 1 11 none (leaf 3 15))
+    ∷ shrunk 4 9 A-numbered is A-numbered
+    ∷ []
+
+left-trees-agree : All-agree left-trees
+unfolding grown shrunk pushed-tree popped-tree linked shifted lifted left-over way following pushing down side
+left-trees-agree = refl

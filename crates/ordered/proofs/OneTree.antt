@@ -1,8 +1,9 @@
--- One tree for a set. In a proper tree the keys rise; it is, row numbers apart, the PreTree of the words that it lists; and the PreTree of
--- a set is proper and lists the set.
+-- One tree for a set. In a proper tree the keys rise; it is, row numbers apart, the PreTree of the words that it lists; and the PreTree
+-- of a set is proper and lists the set.
 use Prim.Native.Nat.{ℕ, zero, suc, _+_, _*_, _/_, _^_, _≤_, _<_}
 use mathlib.Core.Path.{_≡_, refl, sym, ap, ap₂, _∙_, subst}
-use mathlib.Core.Bool.{Bool, true, false, _&&_}
+use mathlib.Core.Logic.{_↔_}
+use mathlib.Core.Bool.{Bool, true, false}
 use mathlib.Core.List.{List, [], _∷_, _++_, append-nil}
 use native.Mathlib.Omega.{arith}
 use lib.ListN.{length, length-append}
@@ -10,28 +11,84 @@ use Rattle.ordered.specs.Such.{if_then_else_}
 use Rattle.ordered.specs.Word.{Side, left, right, bitOf, side, other, isSide}
 use Rattle.ordered.specs.Dictionary.{Above, none-above, one-above, Increasing, none-increasing, one-increasing}
 use Rattle.ordered.specs.Tree.{Tree, none, row, damaged, Entry, part, listing, size, intact, unnumbered, going, treeOf}
-use Rattle.ordered.specs.Proper.{Fitting, Proper-row, Proper}
-use Rattle.ordered.proofs.Bits.{to-part, from-part, side-of-part, left-below-right, by-sides, whole-path}
+use Rattle.ordered.specs.Proper.{Fitting, Proper}
+use Rattle.ordered.proofs.Bits.{to-part, from-part, side-of-part, left-below-right, by-sides, whole-path, on-root-path}
 use Rattle.ordered.proofs.Parts.{All, none-all, one-all, all-map, all-append, all-both, all-above, above-all, append-increasing}
 
+-- the words of W bits are those that fit into the whole tree
+pub root-fits : (W k : ℕ) → k < 2 ^ W ↔ Fitting W 0 0 k
+root-fits W k =
+    (λ small. record { not-below = omega arith; on-path = on-root-path W k .0 small }, λ fits. on-root-path W k .1 (fits .on-path))
+
+-- induction over a proper tree: what holds of none, of a row with no bit left, and of a row with bits left where it holds of its parts
+pub by-rows : (P : (m path low : ℕ) → Tree → Type 0)
+    → ((m path low : ℕ) → P m path low none)
+    → ((path low i : ℕ) (e : Entry) → Fitting zero path low (e .key) → P zero path low (row i e none none))
+    → ((m path low i : ℕ) (e : Entry) (l r : Tree) → Fitting (suc m) path low (e .key)
+    → ((s : Side) → Proper m (path * 2 + bitOf s) (suc (e .key)) (part s l r))
+    → ((s : Side) → P m (path * 2 + bitOf s) (suc (e .key)) (part s l r)) → P (suc m) path low (row i e l r))
+    → (m path low : ℕ) (t : Tree) → Proper m path low t → P m path low t
+unfolding Proper
+by-rows P of-none of-last of-row zero path low none h = of-none zero path low
+by-rows P of-none of-last of-row zero path low (row i e l r) h =
+    rw (h .parts left, h .parts right) (of-last path low i e (h .key-fits))
+by-rows P of-none of-last of-row zero path low damaged h = absurd h
+by-rows P of-none of-last of-row (suc m) path low none h = of-none (suc m) path low
+by-rows P of-none of-last of-row (suc m) path low (row i e l r) h =
+    of-row m path low i e l r (h .key-fits) (h .parts)
+    (λ s. by-rows P of-none of-last of-row m (path * 2 + bitOf s) (suc (e .key)) (part s l r) (h .parts s))
+by-rows P of-none of-last of-row (suc m) path low damaged h = absurd h
+
 -- what fits into a part of a row fits into the row's own
-pub widened : (m path low key : ℕ) (s : Side) → low ≤ key → {x : ℕ} → Fitting m (path * 2 + bitOf s) (suc key) x → Fitting (suc m) path low x
+widened : (m path low key : ℕ) (s : Side) → low ≤ key
+    → {x : ℕ} → Fitting m (path * 2 + bitOf s) (suc key) x → Fitting (suc m) path low x
 widened m path low key s h {x} f =
     record { not-below = omega (arith, f .not-below); on-path = from-part m x path s (f .on-path) }
 
 pub keys-fit : (m path low : ℕ) (t : Tree) → Proper m path low t → All (Fitting m path low) (listing t)
-unfolding Proper listing
-keys-fit zero path low none h = none-all
-keys-fit zero path low (row i e l r) h = rw (h .parts left, h .parts right) (one-all (h .key-fits) none-all)
-keys-fit zero path low damaged h = absurd h
-keys-fit (suc m) path low none h = none-all
-keys-fit (suc m) path low (row i e l r) h =
-    let key : ℕ = e .key in
-    let from : low ≤ key = h .key-fits .not-below in
-    let lefts : All (Fitting m (path * 2 + bitOf left) (suc key)) (listing l) = keys-fit m (path * 2 + bitOf left) (suc key) l (h .parts left) in
-    let rights : All (Fitting m (path * 2 + bitOf right) (suc key)) (listing r) = keys-fit m (path * 2 + bitOf right) (suc key) r (h .parts right) in
-    one-all (h .key-fits) (all-append (all-map (λ x. widened m path low key left from) lefts) (all-map (λ x. widened m path low key right from) rights))
-keys-fit (suc m) path low damaged h = absurd h
+unfolding listing
+keys-fit =
+    by-rows (λ m path low t. All (Fitting m path low) (listing t)) (λ m path low. none-all) (λ path low i e fits. one-all fits none-all)
+    (λ m path low i e l r fits parts below.
+    one-all fits (all-append
+    (all-map (λ x. widened m path low (e .key) left (fits .not-below)) (below left))
+    (all-map (λ x. widened m path low (e .key) right (fits .not-below)) (below right))))
+
+-- the two parts of a row with m + 1 bits left
+module _ (m path low : ℕ) (l r : Tree) (parts : (s : Side) → Proper m (path * 2 + bitOf s) low (part s l r)) where
+  fits : (s : Side) → All (Fitting m (path * 2 + bitOf s) low) (listing (part s l r))
+  fits s = keys-fit m (path * 2 + bitOf s) low (part s l r) (parts s)
+
+  -- the words of the left part are below those of the right part
+  parts-apart : All (λ x. Above x (listing r)) (listing l)
+  parts-apart =
+      all-map (λ x f. all-above (all-map (λ y g. left-below-right m path x y (f .on-path) (g .on-path)) (fits right))) (fits left)
+
+  pub parts-above : All (λ x. low ≤ x) (listing l ++ listing r)
+  parts-above = all-append (all-map (λ x f. f .not-below) (fits left)) (all-map (λ y g. g .not-below) (fits right))
+
+pub keys-rise : (m path low : ℕ) (t : Tree) → Proper m path low t → Increasing (listing t)
+unfolding listing
+keys-rise =
+    by-rows (λ m path low t. Increasing (listing t)) (λ m path low. none-increasing)
+    (λ path low i e fits. one-increasing none-above none-increasing)
+    (λ m path low i e l r fits parts below.
+    one-increasing (all-above (parts-above m path (suc (e .key)) l r parts))
+    (append-increasing (below left) (below right) (parts-apart m path (suc (e .key)) l r parts)))
+
+pub proper-intact : (m path low : ℕ) (t : Tree) → Proper m path low t → intact t ≡ true
+unfolding intact
+proper-intact =
+    by-rows (λ m path low t. intact t ≡ true) (λ m path low. refl) (λ path low i e fits. refl)
+    (λ m path low i e l r fits parts below. rw (below left, below right))
+
+-- every tree lists as many words as it has rows
+pub listing-length : (t : Tree) → length (listing t) ≡ size t
+unfolding listing size
+listing-length none = refl
+listing-length (row i e l r) =
+    ap suc (length-append (listing l) (listing r) ∙ ap₂ _+_ (listing-length l) (listing-length r))
+listing-length damaged = refl
 
 isSide-same : (s : Side) → isSide s s ≡ true
 isSide-same left = refl
@@ -63,11 +120,11 @@ module _ (s : Side) (m : ℕ) where
   going-append : (xs ys : List ℕ) → going s m (xs ++ ys) ≡ going s m xs ++ going s m ys
   unfolding going
   going-append [] ys = refl
-  going-append (x ∷ xs) ys = rw (going-append xs ys) (either (isSide s (side m x)))
+  going-append (x ∷ xs) ys = rw (going-append xs ys) (either (isSide s (side m x)) (going s m xs) (going s m ys))
     where
-      either : (b : Bool) → (if b then x ∷ (going s m xs ++ going s m ys) else going s m xs ++ going s m ys) ≡ (if b then x ∷ going s m xs else going s m xs) ++ going s m ys
-      either true = refl
-      either false = refl
+      either : (b : Bool) (gs hs : List ℕ) → (if b then x ∷ (gs ++ hs) else gs ++ hs) ≡ (if b then x ∷ gs else gs) ++ hs
+      either true gs hs = refl
+      either false gs hs = refl
 
   -- they have what every word of the list has, and they go to that side
   going-has : {P : ℕ → Type 0} {xs : List ℕ} → All P xs → All (λ x. P x × (side m x ≡ s)) (going s m xs)
@@ -86,60 +143,47 @@ module _ (s : Side) (m : ℕ) where
       (λ here. one-increasing (all-above (all-map (λ y g. g .0) (going-has (above-all a)))) (going-increasing h))
       (λ there. going-increasing h)
 
--- the two parts of a row with m + 1 bits left
+-- of the words that a row lists below its key, those of a part are those that go to its side
 module _ (m path low : ℕ) (l r : Tree) (parts : (s : Side) → Proper m (path * 2 + bitOf s) low (part s l r)) where
-  fits : (s : Side) → All (Fitting m (path * 2 + bitOf s) low) (listing (part s l r))
-  fits s = keys-fit m (path * 2 + bitOf s) low (part s l r) (parts s)
-
-  -- the words of the left part are below those of the right part
-  pub parts-apart : All (λ x. Above x (listing r)) (listing l)
-  parts-apart = all-map (λ x f. all-above (all-map (λ y g. left-below-right m path x y (f .on-path) (g .on-path)) (fits right))) (fits left)
-
-  pub parts-above : All (λ x. low ≤ x) (listing l ++ listing r)
-  parts-above = all-append (all-map (λ x f. f .not-below) (fits left)) (all-map (λ y g. g .not-below) (fits right))
-
   going-to : (s : Side) → All (λ x. side m x ≡ s) (listing (part s l r))
-  going-to s = all-map (λ x f. side-of-part m x path s (f .on-path)) (fits s)
+  going-to s = all-map (λ x f. side-of-part m x path s (f .on-path)) (fits m path low l r parts s)
 
-  -- of the words that the row lists below its key, those of a part are those that go to its side
   going-part : (s : Side) → going s m (listing l ++ listing r) ≡ listing (part s l r)
-  going-part left = going-append left m (listing l) (listing r) ∙ ap₂ _++_ (going-all left m (going-to left)) (going-none left m (going-to right)) ∙ append-nil (listing l)
-  going-part right = going-append right m (listing l) (listing r) ∙ ap₂ _++_ (going-none right m (going-to left)) (going-all right m (going-to right))
-
-pub keys-rise : (m path low : ℕ) (t : Tree) → Proper m path low t → Increasing (listing t)
-unfolding Proper listing
-keys-rise zero path low none h = none-increasing
-keys-rise zero path low (row i e l r) h = rw (h .parts left, h .parts right) (one-increasing none-above none-increasing)
-keys-rise zero path low damaged h = absurd h
-keys-rise (suc m) path low none h = none-increasing
-keys-rise (suc m) path low (row i e l r) h =
-    let next : ℕ = suc (e .key) in
-    one-increasing
-    (all-above (parts-above m path next l r (h .parts)))
-    (append-increasing (keys-rise m (path * 2 + bitOf left) next l (h .parts left)) (keys-rise m (path * 2 + bitOf right) next r (h .parts right)) (parts-apart m path next l r (h .parts)))
-keys-rise (suc m) path low damaged h = absurd h
+  going-part left =
+      going-append left m (listing l) (listing r)
+      ∙ ap₂ _++_ (going-all left m (going-to left)) (going-none left m (going-to right)) ∙ append-nil (listing l)
+  going-part right =
+      going-append right m (listing l) (listing r)
+      ∙ ap₂ _++_ (going-none right m (going-to left)) (going-all right m (going-to right))
 
 -- "One tree": a proper tree is, row numbers apart, the PreTree of what it lists
 pub one-tree : (m path low : ℕ) (t : Tree) → Proper m path low t → unnumbered t ≡ treeOf m (listing t)
-unfolding Proper listing unnumbered treeOf
-one-tree zero path low none h = refl
-one-tree zero path low (row i e l r) h = rw (h .parts left, h .parts right)
-one-tree zero path low damaged h = absurd h
-one-tree (suc m) path low none h = refl
-one-tree (suc m) path low (row i e l r) h =
-    let next : ℕ = suc (e .key) in
-    rw (going-part m path next l r (h .parts) left, going-part m path next l r (h .parts) right)
-    (ap₂ (row 0 e) (one-tree m (path * 2 + bitOf left) next l (h .parts left)) (one-tree m (path * 2 + bitOf right) next r (h .parts right)))
-one-tree (suc m) path low damaged h = absurd h
+unfolding listing unnumbered treeOf
+one-tree =
+    by-rows (λ m path low t. unnumbered t ≡ treeOf m (listing t)) empty (λ path low i e fits. refl)
+    (λ m path low i e l r fits parts below.
+    rw (going-part m path (suc (e .key)) l r parts left, going-part m path (suc (e .key)) l r parts right)
+    (ap₂ (row 0 e) (below left) (below right)))
+  where
+    empty : (m path low : ℕ) → none ≡ treeOf m []
+    empty zero path low = refl
+    empty (suc m) path low = refl
+
+-- so two proper trees with the same bits left that list the same words are equal, row numbers apart
+pub same-tree : (m path low path′ low′ : ℕ) (t u : Tree) → Proper m path low t → Proper m path′ low′ u
+    → listing t ≡ listing u → unnumbered t ≡ unnumbered u
+same-tree m path low path′ low′ t u h k same = one-tree m path low t h ∙ ap (treeOf m) same ∙ sym (one-tree m path′ low′ u k)
 
 part-of : (f : Side → Tree) (s : Side) → part s (f left) (f right) ≡ f s
 part-of f left = refl
 part-of f right = refl
 
 -- what goes to a side fits into the part there
-going-fits : (m path low : ℕ) (s : Side) {x : ℕ} {xs : List ℕ} → Above x xs → All (Fitting (suc m) path low) xs → All (Fitting m (path * 2 + bitOf s) (suc x)) (going s m xs)
+going-fits : (m path low : ℕ) (s : Side) {x : ℕ} {xs : List ℕ} → Above x xs → All (Fitting (suc m) path low) xs
+    → All (Fitting m (path * 2 + bitOf s) (suc x)) (going s m xs)
 going-fits m path low s a fs =
-    all-map (λ y g. record { not-below = g .0 .0; on-path = to-part m y path s (g .0 .1 .on-path) (g .1) }) (going-has s m (all-both (above-all a) fs))
+    all-map (λ y g. record { not-below = g .0 .0; on-path = to-part m y path s (g .0 .1 .on-path) (g .1) })
+    (going-has s m (all-both (above-all a) fs))
 
 -- the PreTree of a set is proper
 pub set-proper : (m path low : ℕ) (S : List ℕ) → Increasing S → All (Fitting m path low) S → Proper m path low (treeOf m S)
@@ -165,15 +209,19 @@ right-stays m x y same less goes-right = by-cases (side m y) refl
     by-cases right also = refl
 
 -- so the words of a row are those that go left and then those that go right
-going-both : (m path low : ℕ) {xs : List ℕ} → Increasing xs → All (Fitting (suc m) path low) xs → going left m xs ++ going right m xs ≡ xs
+going-both : (m path low : ℕ) {xs : List ℕ} → Increasing xs → All (Fitting (suc m) path low) xs
+    → going left m xs ++ going right m xs ≡ xs
 unfolding going
 going-both m path low none-increasing fits = refl
 going-both m path low (one-increasing {x} {xs} a rising) (one-all f fs) = by-cases (side m x) refl (going-both m path low rising fs)
   where
     all-right : side m x ≡ right → All (λ y. side m y ≡ right) xs
-    all-right goes-right = all-map (λ y g. right-stays m x y (f .on-path ∙ sym (g .1 .on-path)) (g .0) goes-right) (all-both (above-all a) fs)
+    all-right goes-right =
+        all-map (λ y g. right-stays m x y (f .on-path ∙ sym (g .1 .on-path)) (g .0) goes-right) (all-both (above-all a) fs)
 
-    by-cases : (s : Side) → side m x ≡ s → going left m xs ++ going right m xs ≡ xs → (if isSide left s then x ∷ going left m xs else going left m xs) ++ (if isSide right s then x ∷ going right m xs else going right m xs) ≡ x ∷ xs
+    by-cases : (s : Side) → side m x ≡ s → going left m xs ++ going right m xs ≡ xs
+        → (if isSide left s then x ∷ going left m xs else going left m xs)
+        ++ (if isSide right s then x ∷ going right m xs else going right m xs) ≡ x ∷ xs
     by-cases left goes-left rest = ap (λ ys. x ∷ ys) rest
     by-cases right goes-right rest = rw (going-none left m (all-right goes-right), going-all right m (all-right goes-right))
 
@@ -186,36 +234,14 @@ set-listing zero path low (x ∷ (y ∷ ys)) (one-increasing (one-above less a) 
     absurd (omega (arith, f .on-path, g .on-path, whole-path x, whole-path y))
 set-listing (suc m) path low [] rising fits = refl
 set-listing (suc m) path low (x ∷ xs) (one-increasing a rising) (one-all f fs) =
-    rw (
-      set-listing m (path * 2 + bitOf left) (suc x) (going left m xs) (going-increasing left m rising) (going-fits m path low left a fs),
-      set-listing m (path * 2 + bitOf right) (suc x) (going right m xs) (going-increasing right m rising) (going-fits m path low right a fs),
-      going-both m path low rising fs,
-    )
+    let below : (s : Side) → listing (treeOf m (going s m xs)) ≡ going s m xs =
+    λ s. set-listing m (path * 2 + bitOf s) (suc x) (going s m xs) (going-increasing s m rising) (going-fits m path low s a fs) in
+    ap (λ ys. x ∷ ys) (ap₂ _++_ (below left) (below right) ∙ going-both m path low rising fs)
 
 pub set-unnumbered : (m : ℕ) (S : List ℕ) → unnumbered (treeOf m S) ≡ treeOf m S
 unfolding treeOf unnumbered
 set-unnumbered zero [] = refl
 set-unnumbered zero (x ∷ xs) = refl
 set-unnumbered (suc m) [] = refl
-set-unnumbered (suc m) (x ∷ xs) = ap₂ (row 0 (record { key = x })) (set-unnumbered m (going left m xs)) (set-unnumbered m (going right m xs))
-
--- so two proper trees with the same bits left that list the same words are equal, row numbers apart
-pub same-tree : (m path low path′ low′ : ℕ) (t u : Tree) → Proper m path low t → Proper m path′ low′ u → listing t ≡ listing u → unnumbered t ≡ unnumbered u
-same-tree m path low path′ low′ t u h k same = one-tree m path low t h ∙ ap (treeOf m) same ∙ sym (one-tree m path′ low′ u k)
-
-pub proper-intact : (m path low : ℕ) (t : Tree) → Proper m path low t → intact t ≡ true
-unfolding Proper intact
-proper-intact zero path low none h = refl
-proper-intact zero path low (row i e l r) h = rw (h .parts left, h .parts right)
-proper-intact zero path low damaged h = absurd h
-proper-intact (suc m) path low none h = refl
-proper-intact (suc m) path low (row i e l r) h =
-    rw (proper-intact m (path * 2 + bitOf left) (suc (e .key)) l (h .parts left), proper-intact m (path * 2 + bitOf right) (suc (e .key)) r (h .parts right))
-proper-intact (suc m) path low damaged h = absurd h
-
--- every tree lists as many words as it has rows
-pub listing-length : (t : Tree) → length (listing t) ≡ size t
-unfolding listing size
-listing-length none = refl
-listing-length (row i e l r) = ap suc (length-append (listing l) (listing r) ∙ ap₂ _+_ (listing-length l) (listing-length r))
-listing-length damaged = refl
+set-unnumbered (suc m) (x ∷ xs) =
+    ap₂ (row 0 (record { key = x })) (set-unnumbered m (going left m xs)) (set-unnumbered m (going right m xs))

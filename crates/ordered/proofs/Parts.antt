@@ -1,11 +1,13 @@
 -- Laws of lists: what holds of every element, what is sought in a list, and both where the list is joined from parts.
-use Prim.Native.Nat.{ℕ, suc, _+_, _<_}
-use mathlib.Core.Path.{_≡_, refl, sym, ap, ap₂, _∙_}
+use Prim.Native.Nat.{ℕ, _<_}
+use mathlib.Core.Path.{_≡_, refl, sym}
 use mathlib.Core.Bool.{Bool, true, false, _||_, or-assoc, or-false}
 use mathlib.Core.List.{List, [], _∷_, _++_, List·Memᴰ, List·Memᴰ·head, List·Memᴰ·tail}
-use lib.Dec.{eqb}
+use native.Mathlib.Omega.{arith}
+use lib.Dec.{ltb, eqb}
+use borrow.Author.Tests.{lt-ltb, le-ltb, ne-eqb}
 use Rattle.ordered.specs.Such.{if_then_else_, Perhaps, no-such, such, first-of, only-if, first-such, last-such, anything}
-use Rattle.ordered.specs.Dictionary.{Above, none-above, one-above, Increasing, none-increasing, one-increasing, lookup}
+use Rattle.ordered.specs.Dictionary.{Above, none-above, one-above, Increasing, none-increasing, one-increasing, insert, lookup, delete}
 
 -- P holds of every element
 pub data All {A : Type 0} (P : A → Type 0) : List A → Type 0 where
@@ -45,7 +47,8 @@ above-all (one-above h hs) = one-all h (above-all hs)
 -- two increasing lists, one wholly below the other
 pub append-increasing : {xs ys : List ℕ} → Increasing xs → Increasing ys → All (λ x. Above x ys) xs → Increasing (xs ++ ys)
 append-increasing none-increasing k apart = k
-append-increasing (one-increasing a h) k (one-all b apart) = one-increasing (all-above (all-append (above-all a) (above-all b))) (append-increasing h k apart)
+append-increasing (one-increasing a h) k (one-all b apart) =
+    one-increasing (all-above (all-append (above-all a) (above-all b))) (append-increasing h k apart)
 
 module _ {A : Type 0} where
   pub first-of-assoc : (p q r : Perhaps A) → first-of (first-of p q) r ≡ first-of p (first-of q r)
@@ -56,11 +59,16 @@ module _ {A : Type 0} where
   first-of-no-such no-such = refl
   first-of-no-such (such x) = refl
 
+  pub first-of-such : (p : Perhaps A) (x : A) (q : Perhaps A) → first-of (first-of p (such x)) q ≡ first-of p (such x)
+  first-of-such no-such x q = refl
+  first-of-such (such y) x q = refl
+
   module _ (p : A → Bool) where
     pub first-such-append : (xs ys : List A) → first-such p (xs ++ ys) ≡ first-of (first-such p xs) (first-such p ys)
     unfolding first-such
     first-such-append [] ys = refl
-    first-such-append (x ∷ xs) ys = rw (first-such-append xs ys) (sym (first-of-assoc (only-if p (such x)) (first-such p xs) (first-such p ys)))
+    first-such-append (x ∷ xs) ys =
+        rw (first-such-append xs ys) (sym (first-of-assoc (only-if p (such x)) (first-such p xs) (first-such p ys)))
 
     pub last-such-append : (xs ys : List A) → last-such p (xs ++ ys) ≡ first-of (last-such p ys) (last-such p xs)
     unfolding last-such
@@ -90,10 +98,12 @@ module _ {A : Type 0} where
 
   -- what is sought among three parts, of which the outer ones wholly pass or fail the test
   module _ (p : A → Bool) (xs ys zs : List A) where
-    pub first-between : All (λ x. p x ≡ false) xs → All (λ z. p z ≡ true) zs → first-such p (xs ++ (ys ++ zs)) ≡ first-of (first-such p ys) (first-such anything zs)
+    pub first-between : All (λ x. p x ≡ false) xs → All (λ z. p z ≡ true) zs
+        → first-such p (xs ++ (ys ++ zs)) ≡ first-of (first-such p ys) (first-such anything zs)
     first-between fail pass = rw (first-such-append p xs (ys ++ zs), no-first xs fail, first-such-append p ys zs, same-first zs pass)
 
-    pub last-between : All (λ x. p x ≡ true) xs → All (λ z. p z ≡ false) zs → last-such p (xs ++ (ys ++ zs)) ≡ first-of (last-such p ys) (last-such anything xs)
+    pub last-between : All (λ x. p x ≡ true) xs → All (λ z. p z ≡ false) zs
+        → last-such p (xs ++ (ys ++ zs)) ≡ first-of (last-such p ys) (last-such anything xs)
     last-between pass fail = rw (last-such-append p xs (ys ++ zs), last-such-append p ys zs, no-last zs fail, same-last xs pass)
 
   abbrev pub If-such : (A → Type 0) → Perhaps A → Type 0
@@ -131,6 +141,56 @@ unfolding lookup
 no-lookup x [] none-all = refl
 no-lookup x (y ∷ ys) (one-all h hs) = rw (h, no-lookup x ys hs)
 
-pub lookup-between : (x : ℕ) (xs ys zs : List ℕ) → All (λ y. eqb x y ≡ false) xs → All (λ y. eqb x y ≡ false) zs → lookup x (xs ++ (ys ++ zs)) ≡ lookup x ys
+pub lookup-between : (x : ℕ) (xs ys zs : List ℕ) → All (λ y. eqb x y ≡ false) xs → All (λ y. eqb x y ≡ false) zs
+    → lookup x (xs ++ (ys ++ zs)) ≡ lookup x ys
 lookup-between x xs ys zs fail fail′ =
     rw (lookup-append x xs (ys ++ zs), no-lookup x xs fail, lookup-append x ys zs, no-lookup x zs fail′) (or-false (lookup x ys))
+
+-- insert and delete among three parts, of which the outer ones are below and above the word
+module _ (x : ℕ) where
+  pub insert-before : (zs : List ℕ) → All (λ z. x < z) zs → insert x zs ≡ x ∷ zs
+  unfolding insert
+  insert-before [] none-all = refl
+  insert-before (z ∷ zs) (one-all h hs) = rw (lt-ltb x z h)
+
+  insert-after : (xs ys : List ℕ) → All (λ y. y < x) xs → insert x (xs ++ ys) ≡ xs ++ insert x ys
+  unfolding insert
+  insert-after [] ys none-all = refl
+  insert-after (y ∷ xs) ys (one-all h hs) = rw (le-ltb x y (omega arith), ne-eqb x y (λ same. omega arith), insert-after xs ys hs)
+
+  insert-append : (ys zs : List ℕ) → All (λ z. x < z) zs → insert x (ys ++ zs) ≡ insert x ys ++ zs
+  unfolding insert
+  insert-append [] zs above = insert-before zs above
+  insert-append (y ∷ ys) zs above = rw (insert-append ys zs above) (either (ltb x y) (eqb x y))
+    where
+      either : (a b : Bool)
+          → (if a then x ∷ y ∷ (ys ++ zs) else if b then y ∷ (ys ++ zs) else y ∷ (insert x ys ++ zs))
+          ≡ (if a then x ∷ y ∷ ys else if b then y ∷ ys else y ∷ insert x ys) ++ zs
+      either true b = refl
+      either false true = refl
+      either false false = refl
+
+  pub insert-between : (xs ys zs : List ℕ) → All (λ y. y < x) xs → All (λ z. x < z) zs
+      → insert x (xs ++ (ys ++ zs)) ≡ xs ++ (insert x ys ++ zs)
+  insert-between xs ys zs below above = rw (insert-after xs (ys ++ zs) below, insert-append ys zs above)
+
+  pub delete-absent : (xs : List ℕ) → All (λ y. eqb x y ≡ false) xs → delete x xs ≡ xs
+  unfolding delete
+  delete-absent [] none-all = refl
+  delete-absent (y ∷ ys) (one-all h hs) = rw (h, delete-absent ys hs)
+
+  delete-append : (xs ys : List ℕ) → delete x (xs ++ ys) ≡ delete x xs ++ delete x ys
+  unfolding delete
+  delete-append [] ys = refl
+  delete-append (y ∷ xs) ys = rw (delete-append xs ys) (either (eqb x y))
+    where
+      either : (b : Bool)
+          → (if b then delete x xs ++ delete x ys else y ∷ (delete x xs ++ delete x ys))
+          ≡ (if b then delete x xs else y ∷ delete x xs) ++ delete x ys
+      either true = refl
+      either false = refl
+
+  pub delete-between : (xs ys zs : List ℕ) → All (λ y. eqb x y ≡ false) xs → All (λ y. eqb x y ≡ false) zs
+      → delete x (xs ++ (ys ++ zs)) ≡ xs ++ (delete x ys ++ zs)
+  delete-between xs ys zs below above =
+      rw (delete-append xs (ys ++ zs), delete-append ys zs, delete-absent xs below, delete-absent zs above)

@@ -1,16 +1,15 @@
 -- Laws of every way, whatever its rule: how to prove one, how a way parts the listing of its tree, and what it passes in a proper tree.
-use Prim.Native.Nat.{ℕ, zero, suc, _+_, _*_, _/_, _^_, _≤_, _<_}
-use mathlib.Core.Path.{_≡_, refl, sym, ap, ap₂, _∙_}
+use Prim.Native.Nat.{ℕ, zero, suc, _+_, _*_, _/_, _^_}
+use mathlib.Core.Path.{_≡_, refl, sym, ap, _∙_}
 use mathlib.Core.Bool.{Bool, true, false, _&&_}
 use mathlib.Core.List.{List, [], _∷_, _++_, append-nil, append-assoc}
-use native.Mathlib.Nat.{zero-add}
-use native.Mathlib.Omega.{arith}
 use lib.Dec.{ltb, leb}
 use Rattle.ordered.specs.Such.{if_then_else_}
 use Rattle.ordered.specs.Word.{Side, left, right, bitOf, side}
 use Rattle.ordered.specs.Tree.{Tree, none, row, damaged, Entry, part, listing, intact}
-use Rattle.ordered.specs.Proper.{Fitting, Proper-row, Proper}
+use Rattle.ordered.specs.Proper.{Proper}
 use Rattle.ordered.specs.Way.{Step, Way, Rule, Turn, stop, to, way, ending, passing, turning, broken, isDamaged, following, passing-equal}
+use Rattle.ordered.specs.Grown.{linking, linked}
 use Rattle.ordered.proofs.Parts.{All, none-all, one-all}
 
 -- where a way by the rule f ends: with no bit left, at an empty link, at damage, or at a row where the rule stops
@@ -23,19 +22,26 @@ pub data Stops (f : Rule) : ℕ → Tree → Type 0 where
 abbrev pub step : ℕ → ℕ → Entry → Tree → Tree → Side → Step
 step m i e l r s = record { at = i; entry = e; turn = s; left-part = l; right-part = r; below = m }
 
--- induction along a way: what holds where it ends, and holds from a row on if it holds from the part on to which the rule turns there, holds
+-- induction along a way: what holds where it ends, and holds from a row on where it holds from the part on to which the rule turns, holds
 -- of the whole way
-pub along : (f : Rule) (P : ℕ → Tree → Way → Type 0)
-    → ((m : ℕ) (t : Tree) → Stops f m t → P m t (ending m t))
-    → ((m i : ℕ) (e : Entry) (l r : Tree) (s : Side) → f m e l r ≡ to s → P m (part s l r) (way f m (part s l r)) → P (suc m) (row i e l r) (passing (step m i e l r s) (way f m (part s l r))))
-    → (m : ℕ) (t : Tree) → P m t (way f m t)
+module _ (f : Rule) (P : ℕ → Tree → Way → Type 0) where
+  abbrev pub At-end : Type 0
+  At-end = (m : ℕ) (t : Tree) → Stops f m t → P m t (ending m t)
+
+  abbrev pub Onward : Type 0
+  Onward =
+      (m i : ℕ) (e : Entry) (l r : Tree) (s : Side) → f m e l r ≡ to s
+      → P m (part s l r) (way f m (part s l r)) → P (suc m) (row i e l r) (passing (step m i e l r s) (way f m (part s l r)))
+
+pub along : (f : Rule) (P : ℕ → Tree → Way → Type 0) → At-end f P → Onward f P → (m : ℕ) (t : Tree) → P m t (way f m t)
 unfolding way
 along f P ends goes zero t = ends zero t at-bottom
 along f P ends goes (suc m) none = ends (suc m) none at-none
 along f P ends goes (suc m) damaged = ends (suc m) damaged at-damage
 along f P ends goes (suc m) (row i e l r) = turned (f m e l r) refl (λ s. along f P ends goes m (part s l r))
   where
-    turned : (c : Turn) → f m e l r ≡ c → ((s : Side) → P m (part s l r) (way f m (part s l r))) → P (suc m) (row i e l r) (turning (way f m) m i e l r c)
+    turned : (c : Turn) → f m e l r ≡ c → ((s : Side) → P m (part s l r) (way f m (part s l r)))
+        → P (suc m) (row i e l r) (turning (way f m) m i e l r c)
     turned stop says rest = ends (suc m) (row i e l r) (at-stop says)
     turned (to s) says rest = goes m i e l r s says (rest s)
 
@@ -65,40 +71,57 @@ module _ (key : ℕ) (aside : List ℕ) {xs : List ℕ} (a b c : List ℕ) (rest
   around-right : key ∷ (aside ++ xs) ≡ (key ∷ (aside ++ a)) ++ (b ++ (c ++ []))
   around-right = rw rest (simp (append-assoc, append-nil))
 
--- the listing is what lies left, what the way's end lists, what lies right
-pub parted : (f : Rule) (m : ℕ) (t : Tree) → let w : Way = way f m t in listing t ≡ lower (w .passed) ++ (listing (w .end) ++ upper (w .passed))
-unfolding listing lower upper
-parted f = along f (λ m t w. listing t ≡ lower (w .passed) ++ (listing (w .end) ++ upper (w .passed))) (λ m t ends. sym (append-nil (listing t))) goes
+-- so a tree linked from the rows of a way lists what lies left of the way, what is linked where it ended, and what lies right
+pub linked-listing : (ss : List Step) (t : Tree) → listing (linked ss t) ≡ lower ss ++ (listing t ++ upper ss)
+unfolding listing lower upper linked
+linked-listing [] t = sym (append-nil (listing t))
+linked-listing (s ∷ ss) t = around (s .turn) (linked-listing ss t)
   where
-    goes : (m i : ℕ) (e : Entry) (l r : Tree) (s : Side) → f m e l r ≡ to s
-        → (let w : Way = way f m (part s l r) in listing (part s l r) ≡ lower (w .passed) ++ (listing (w .end) ++ upper (w .passed)))
-        → (let w : Way = passing (step m i e l r s) (way f m (part s l r)) in listing (row i e l r) ≡ lower (w .passed) ++ (listing (w .end) ++ upper (w .passed)))
-    goes m i e l r left says rest =
-        let w : Way = way f m l in
-        around-left (e .key) (listing r) (lower (w .passed)) (listing (w .end)) (upper (w .passed)) rest
-    goes m i e l r right says rest =
-        let w : Way = way f m r in
-        around-right (e .key) (listing l) (lower (w .passed)) (listing (w .end)) (upper (w .passed)) rest
+    around : (turn : Side) → listing (linked ss t) ≡ lower ss ++ (listing t ++ upper ss)
+        → listing (linking (s .at) (s .entry) turn (s .left-part) (s .right-part) (linked ss t))
+        ≡ (s .entry .key ∷ (left-aside turn (s .left-part) ++ lower ss)) ++ (listing t ++ (upper ss ++ right-aside turn (s .right-part)))
+    around left rest = around-left (s .entry .key) (listing (s .right-part)) (lower ss) (listing t) (upper ss) rest
+    around right rest = around-right (s .entry .key) (listing (s .left-part)) (lower ss) (listing t) (upper ss) rest
+
+-- the rows of a way, linked again with the part at which it ended, are the tree
+pub linked-again : (f : Rule) (m : ℕ) (t : Tree) → linked (way f m t .passed) (way f m t .end) ≡ t
+unfolding linked
+linked-again f =
+    along f (λ m t w. linked (w .passed) (w .end) ≡ t) (λ m t ends. refl)
+    (λ m i e l r s says rest. ap (linking i e s l r) rest ∙ own i e s l r)
+  where
+    own : (i : ℕ) (e : Entry) (s : Side) (l r : Tree) → linking i e s l r (part s l r) ≡ row i e l r
+    own i e left l r = refl
+    own i e right l r = refl
+
+-- so every way parts the listing of its tree in three
+pub parted : (f : Rule) (m : ℕ) (t : Tree)
+    → let w : Way = way f m t in listing t ≡ lower (w .passed) ++ (listing (w .end) ++ upper (w .passed))
+parted f m t =
+    let w : Way = way f m t in
+    sym (ap listing (linked-again f m t)) ∙ linked-listing (w .passed) (w .end)
 
 -- the parts on both sides of a row that is passed are proper
 abbrev pub Proper-step : Step → Type 0
-Proper-step s = (σ : Side) → Proper (s .below) (s .entry .key / 2 ^ suc (s .below) * 2 + bitOf σ) (suc (s .entry .key)) (part σ (s .left-part) (s .right-part))
+Proper-step s =
+    (σ : Side)
+    → Proper (s .below) (s .entry .key / 2 ^ suc (s .below) * 2 + bitOf σ) (suc (s .entry .key)) (part σ (s .left-part) (s .right-part))
 
 pub passed-proper : (f : Rule) (m : ℕ) (t : Tree) (path low : ℕ) → Proper m path low t → All Proper-step (way f m t .passed)
 unfolding Proper
-passed-proper f = along f (λ m t w. (path low : ℕ) → Proper m path low t → All Proper-step (w .passed)) (λ m t ends path low h. none-all) goes
+passed-proper f =
+    along f (λ m t w. (path low : ℕ) → Proper m path low t → All Proper-step (w .passed)) (λ m t ends path low h. none-all) goes
   where
-    goes : (m i : ℕ) (e : Entry) (l r : Tree) (s : Side) → f m e l r ≡ to s
-        → ((path low : ℕ) → Proper m path low (part s l r) → All Proper-step (way f m (part s l r) .passed))
-        → (path low : ℕ) → Proper (suc m) path low (row i e l r) → All Proper-step (step m i e l r s ∷ way f m (part s l r) .passed)
-    goes m i e l r s says rest path low h = one-all {x = step m i e l r s} (rw (h .key-fits .on-path) (h .parts)) (rest (path * 2 + bitOf s) (suc (e .key)) (h .parts s))
+    goes : Onward f (λ m t w. (path low : ℕ) → Proper m path low t → All Proper-step (w .passed))
+    goes m i e l r s says rest path low h =
+        one-all {x = step m i e l r s} (rw (h .key-fits .on-path) (h .parts)) (rest (path * 2 + bitOf s) (suc (e .key)) (h .parts s))
 
 pub and-true : (a b : Bool) → (a && b) ≡ true → (a ≡ true) × (b ≡ true)
 and-true true b h = (refl, h)
 and-true false b h = (h, cc)
 
 -- a tree without damage breaks no way
-intact-part : (s : Side) (l r : Tree) → (intact l && intact r) ≡ true → intact (part s l r) ≡ true
+pub intact-part : (s : Side) (l r : Tree) → (intact l && intact r) ≡ true → intact (part s l r) ≡ true
 intact-part left l r h = and-true (intact l) (intact r) h .0
 intact-part right l r h = and-true (intact l) (intact r) h .1
 

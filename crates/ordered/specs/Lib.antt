@@ -9,4 +9,5 @@ pub mod Proper
 pub mod Way
 pub mod Reading
 pub mod Change
+pub mod Grown
 pub mod Example

@@ -8,5 +8,11 @@ pub mod Find
 pub mod Add
 pub mod Del
 pub mod Whole
+pub mod Part
 pub mod Walk
+pub mod Resume
+pub mod Push
+pub mod Found
+pub mod Gap
+pub mod Erased
 pub mod Starred

@@ -2,6 +2,7 @@
 -- Document 01: "A row is three table words: key, left link, right link. Row i begins at table word 3i. Capacity is the table's length
 -- divided by 3, rounded down, and at most 65,535."
 use Prim.Native.Nat.{ℕ, _+_, _*_, _/_, min}
+use mathlib.Core.Bool.{Bool, true, false}
 use mathlib.Core.List.{List, [], _∷_}
 use lib.ListN.{length, getD, set}
 use lib.Seq.{sets}
@@ -25,6 +26,11 @@ withKey i k table = set table (3 * i) k
 
 unfoldable pub withLink : ℕ → Side → ℕ → List ℕ → List ℕ
 withLink i s j table = set table (3 * i + 1 + bitOf s) j
+
+-- another link, if there is such a row
+abbrev pub hooked : Bool → ℕ → Side → ℕ → List ℕ → List ℕ
+hooked true i s j table = withLink i s j table
+hooked false i s j table = table
 
 unfoldable pub withRow : ℕ → Row → List ℕ → List ℕ
 withRow i r table = sets table (3 * i) (r .entry .key ∷ r .left ∷ r .right ∷ [])

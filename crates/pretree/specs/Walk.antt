@@ -1,32 +1,34 @@
--- The walk of `src/walk.rt` by the bits of a word, as a function from a walk and the row it met to the next walk; and what a walk has to do
--- with the way that it walks: what is still to come, and what it remembers of the rows that it passed.
-use Prim.Native.Nat.{ℕ, zero, suc, pred, _+_, _*_, _-_, _/_, _^_, _≤_, _<_}
+-- The walk of `src/walk.rt` as a function from a walk, the row it met and the turn there to the next walk; and what a walk has to do with
+-- the way that it walks: what is still to come, and what it remembers of the rows that it passed.
+use Prim.Native.Nat.{ℕ, zero, suc, pred, _+_, _*_, _-_, _/_, _%_, _^_, _≤_, _<_}
 use mathlib.Core.Path.{_≡_}
-use mathlib.Core.Bool.{Bool, true, false, not, _&&_, _||_}
+use mathlib.Core.Bool.{Bool, true, false, not, _&&_}
 use mathlib.Core.List.{List, [], _∷_}
 use lib.Dec.{ltb, leb, eqb}
 use lib.ListN.{length}
 use Rattle.ordered.specs.Such.{if_then_else_, Perhaps, no-such, such, first-of, last-such, anything}
-use Rattle.ordered.specs.Word.{Side, left, right, side, bitOf, isSide}
+use Rattle.ordered.specs.Word.{Side, left, right, other, sideOf, bitOf, side}
 use Rattle.ordered.specs.Tree.{Tree, none, row, damaged}
-use Rattle.ordered.specs.Way.{Way, Step, Rule, Turn, stop, to, way, ending}
+use Rattle.ordered.specs.Way.{Way, Step, Rule, way, ending, stop, to}
+use Rattle.ordered.specs.Way as Ways
 use Rattle.ordered.specs.Reading.{right-left-aside}
 use Rattle.pretree.specs.declared.Header.{Header}
 use Rattle.pretree.specs.declared.Row.{Row}
 use Rattle.pretree.specs.declared.walk.Stage.{Stage}
 use Rattle.pretree.specs.declared.walk.Stage.the-variants.{On, AtNone, AtRow, AtDamage}
+use Rattle.pretree.specs.declared.walk.Turn.{Turn}
+use Rattle.pretree.specs.declared.walk.Turn.the-variants.{Stop, Left, Right}
 use Rattle.pretree.specs.declared.walk.Walk.{Walk}
-use Rattle.pretree.specs.Table.{link}
-use Rattle.pretree.specs.Unfold.{ends-there, linked, unfolded}
+use Rattle.pretree.specs.Table.{capacity, rowAt, link}
+use Rattle.pretree.specs.Unfold.{ends-there, linked, unfolded, shown}
 
-abbrev pub started : Header → ℕ → ℕ → Walk
-started h word limit =
+abbrev pub started : Header → Walk
+started h =
     record {
-      word = word;
-      limit = limit;
       count = h .count;
       row = 0;
       bits = h .width;
+      path = 0;
       low = 0;
       key = 0;
       above = 0;
@@ -42,19 +44,27 @@ isOn AtNone = false
 isOn AtRow = false
 isOn AtDamage = false
 
+abbrev pub endRead : Stage → ℕ
+endRead On = 0
+endRead AtNone = 0
+endRead AtRow = 1
+endRead AtDamage = 0
+
+-- the rows that a walk from a root with so many bits left has read
+abbrev pub rowsRead : Walk → ℕ → ℕ
+rowsRead w width = width - w .bits + endRead (w .stage)
+
 -- the row that the walk wants is no damage, but for its number
 abbrev pub holds : Walk → Row → Bool
-holds w r =
-    leb (w .low) (r .entry .key) && (eqb (r .entry .key / 2 ^ w .bits) (w .word / 2 ^ w .bits) && ends-there (w .bits) r)
+holds w r = leb (w .low) (r .entry .key) && (eqb (r .entry .key / 2 ^ w .bits) (w .path) && ends-there (w .bits) r)
 
 abbrev pub ended : Walk → Stage → ℕ → Walk
 ended w stage key =
     record {
-      word = w .word;
-      limit = w .limit;
       count = w .count;
       row = w .row;
       bits = w .bits;
+      path = w .path;
       low = w .low;
       key = key;
       above = w .above;
@@ -68,15 +78,30 @@ ended w stage key =
 abbrev pub stageAt : ℕ → ℕ → Stage
 stageAt count i = if eqb i 0 then AtNone else if ltb i count then On else AtDamage
 
+abbrev pub startedAt : ℕ → ℕ → ℕ → ℕ → ℕ → Walk
+startedAt count i bits path low =
+    record {
+      count = count;
+      row = i;
+      bits = bits;
+      path = path;
+      low = low;
+      key = 0;
+      above = 0;
+      aside = 0;
+      beneath = 0;
+      any = false;
+      stage = stageAt count i;
+    }
+
 -- the walk that remembers the row at which it is
 abbrev pub remembering : Walk → Walk
 remembering w =
     record {
-      word = w .word;
-      limit = w .limit;
       count = w .count;
       row = w .row;
       bits = w .bits;
+      path = w .path;
       low = w .low;
       key = w .key;
       above = w .above;
@@ -86,15 +111,14 @@ remembering w =
       stage = w .stage;
     }
 
--- the walk that passed a row with key k by the link l
-abbrev pub passed : Walk → ℕ → ℕ → Walk
-passed w k l =
+-- the walk that passed a row with key k, by the link l on the side of that bit
+abbrev pub passed : Walk → ℕ → ℕ → ℕ → Walk
+passed w k bit l =
     record {
-      word = w .word;
-      limit = w .limit;
       count = w .count;
       row = l;
       bits = pred (w .bits);
+      path = w .path * 2 + bit;
       low = suc k;
       key = k;
       above = w .row;
@@ -105,60 +129,139 @@ passed w k l =
     }
 
 -- a left turn is remembered where there is a right link
-unfoldable pub turned : Walk → Row → Side → Walk
-turned w r left = passed (if eqb (r .right) 0 then w else remembering w) (r .entry .key) (r .left)
-turned w r right = passed w (r .entry .key) (r .right)
+unfoldable pub turned : Walk → Row → Turn → Walk
+turned w r Stop = ended w AtRow (r .entry .key)
+turned w r Left = passed (if eqb (r .right) 0 then w else remembering w) (r .entry .key) 0 (r .left)
+turned w r Right = passed w (r .entry .key) 1 (r .right)
 
-unfoldable pub met : Walk → Row → Walk
-met w r =
+unfoldable pub met : Walk → Row → Turn → Walk
+met w r turn =
     if not (holds w r) then ended w AtDamage (r .entry .key)
     else if eqb (w .bits) 0 then ended w AtRow (r .entry .key)
-    else if leb (w .limit) (r .entry .key) then ended w AtRow (r .entry .key)
-    else turned w r (side (pred (w .bits)) (w .word))
+    else turned w r turn
 
--- the rule of the walk: the way of k where the limit is k; and where it is k + 1 "rows equal to k are passed through"
+-- the turn as a rule says it
+abbrev pub turnOf : Turn → Ways.Turn
+turnOf Stop = stop
+turnOf Left = to left
+turnOf Right = to right
+
+-- the tree at the row that the walk wants, or at which it ended
+abbrev pub treeAt : (ℕ → Row) → Walk → Tree
+treeAt rows w = unfolded rows (w .count) (w .bits) (w .path) (w .low) (w .row)
+
+-- the part of the way by the rule f that is still to come
+abbrev pub to-come : (ℕ → Row) → Rule → Walk → Stage → Way
+to-come rows f w On = way f (w .bits) (treeAt rows w)
+to-come rows f w AtNone = ending (w .bits) none
+to-come rows f w AtRow = ending (w .bits) (treeAt rows w)
+to-come rows f w AtDamage = ending (w .bits) damaged
+
+abbrev pub toCome : (ℕ → Row) → Rule → Walk → Way
+toCome rows f w = to-come rows f w (w .stage)
+
+-- the part on a side of row i, which has m bits left: what its link shows. (A row that is no damage has its path in its key.)
+abbrev pub below : (ℕ → Row) → ℕ → ℕ → ℕ → Side → Tree
+below rows n zero i s = none
+below rows n (suc m) i s =
+    linked (unfolded rows n m (rows i .entry .key / 2 ^ suc m * 2 + bitOf s) (suc (rows i .entry .key))) (link (rows i) s)
+
+-- the step by which a way passed row i to a side, with m bits left below
+unfoldable pub stepAt : (ℕ → Row) → ℕ → ℕ → ℕ → Side → Step
+stepAt rows n m i s =
+    record {
+      at = i;
+      entry = record { key = rows i .entry .key };
+      turn = s;
+      left-part = below rows n (suc m) i left;
+      right-part = below rows n (suc m) i right;
+      below = m;
+    }
+
+-- that step, if there is one to remember
+abbrev pub remembered : (ℕ → Row) → ℕ → Bool → ℕ → ℕ → Side → Perhaps Step
+remembered rows n true m i s = such (stepAt rows n m i s)
+remembered rows n false m i s = no-such
+
+-- the walk w goes the whole way, from a root with so many bits left, if this is still to come
+pub record Goes (rows : ℕ → Row) (width : ℕ) (whole : Way) (w : Walk) (coming : Way) : Type 0 where
+  pub end : coming .end ≡ whole .end
+  pub bits : coming .bits ≡ whole .bits
+  pub number : length (coming .passed) + (width - w .bits) ≡ length (whole .passed)
+  pub above : first-of (last-such anything (coming .passed)) (remembered rows (w .count) (ltb (w .bits) width) (w .bits) (w .above) (sideOf (w .path % 2)))
+      ≡ last-such anything (whole .passed)
+  pub aside : first-of (last-such right-left-aside (coming .passed)) (remembered rows (w .count) (w .any) (w .beneath) (w .aside) left)
+      ≡ last-such right-left-aside (whole .passed)
+
+-- what is known of the row at which the walk is: one that it wants is in use; one at which it ended was read, and is no damage
+abbrev pub Placed : (ℕ → Row) → Walk → Stage → Type 0
+Placed rows w On = w .row < w .count
+Placed rows w AtNone = Unit {0}
+Placed rows w AtRow = (w .row < w .count) × (holds w (rows (w .row)) ≡ true) × (w .key ≡ rows (w .row) .entry .key)
+Placed rows w AtDamage = Unit {0}
+
+-- the rows that it remembers are in use
+pub record Memory (width : ℕ) (w : Walk) : Type 0 where
+  pub above-used : w .bits < width → w .above < w .count
+  pub aside-used : w .any ≡ true → (w .aside < w .count) × (w .beneath < width)
+
+-- the walk w is on the way by the rule f from a tree with so many bits left
+pub record Walking (rows : ℕ → Row) (f : Rule) (width count : ℕ) (tree : Tree) (w : Walk) : Type 0 where
+  pub goes : Goes rows width (way f width tree) w (toCome rows f w)
+  pub placed : Placed rows w (w .stage)
+  pub memory : Memory width w
+  pub fits : w .bits ≤ width
+  pub same-count : w .count ≡ count
+
+-- and has gone it
+pub record Walked (rows : ℕ → Row) (f : Rule) (width count : ℕ) (tree : Tree) (w : Walk) : Type 0 where
+  pub walking : Walking rows f width count tree w
+  pub ended : isOn (w .stage) ≡ false
+
+abbrev pub toward : Side → Turn
+toward left = Left
+toward right = Right
+
+-- the rule of the walks by a word: the way of k where the limit is k; and where it is k + 1 "rows equal to k are passed through"
 unfoldable pub seeking : ℕ → ℕ → Rule
 seeking limit k m e l r =
     if ltb (e .key) limit then to (side m k)
     else stop
 
--- the tree at the row that the walk wants, or at which it ended
-abbrev pub treeAt : (ℕ → Row) → Walk → Tree
-treeAt rows w = unfolded rows (w .count) (w .bits) (w .word / 2 ^ w .bits) (w .low) (w .row)
+-- the same as a turn, at a row with that key and so many bits left
+abbrev pub seekTurn : ℕ → ℕ → ℕ → ℕ → Turn
+seekTurn limit k key bits =
+    if eqb bits 0 then Stop
+    else if leb limit key then Stop
+    else toward (side (pred bits) k)
 
-abbrev pub to-come : (ℕ → Row) → Walk → Stage → Way
-to-come rows w On = way (seeking (w .limit) (w .word)) (w .bits) (treeAt rows w)
-to-come rows w AtNone = ending (w .bits) none
-to-come rows w AtRow = ending (w .bits) (treeAt rows w)
-to-come rows w AtDamage = ending (w .bits) damaged
+-- a walk that may begin in this table: what it wants stands there
+pub record Begun (table : List ℕ) (w : Walk) : Type 0 where
+  pub few-bits : w .bits ≤ 32
+  pub has-room : w .count ≤ capacity table
+  pub placed : Placed (rowAt table) w (w .stage)
+  pub fresh : w .any ≡ false
+  pub not-ended : w .stage ≡ AtRow → ⊥
 
--- the part of the way that is still to come
-abbrev pub toCome : (ℕ → Row) → Walk → Way
-toCome rows w = to-come rows w (w .stage)
+-- the tree at which a walk stands
+abbrev pub standing : (ℕ → Row) → Walk → Stage → Tree
+standing rows w On = treeAt rows w
+standing rows w AtNone = none
+standing rows w AtRow = treeAt rows w
+standing rows w AtDamage = damaged
 
--- the step by which the way of k passed row i, with m bits left below it
-unfoldable pub stepAt : (ℕ → Row) → ℕ → ℕ → ℕ → ℕ → Step
-stepAt rows n k m i =
-    let below : Side → Tree = λ s. linked (unfolded rows n m (k / 2 ^ suc m * 2 + bitOf s) (suc (rows i .entry .key))) (link (rows i) s) in
-    record {
-      at = i;
-      entry = record { key = rows i .entry .key };
-      turn = side m k;
-      left-part = below left;
-      right-part = below right;
-      below = m;
-    }
+-- the walk w went on as r, all the way by the rule f from where it stood; if it passed no row it remembers what it did
+pub record Fell (rows : ℕ → Row) (f : Rule) (w r : Walk) : Type 0 where
+  pub walked : Walked rows f (w .bits) (w .count) (standing rows w (w .stage)) r
+  pub unmoved : r .bits ≡ w .bits → (r .above ≡ w .above) × (r .path ≡ w .path)
 
-abbrev pub remembered : (ℕ → Row) → Walk → Bool → ℕ → ℕ → Perhaps Step
-remembered rows w true m i = such (stepAt rows (w .count) (w .word) m i)
-remembered rows w false m i = no-such
+-- the link on the side s first, else the other
+abbrev pub downTurn : Side → Row → Turn
+downTurn s r =
+    if not (eqb (link r s) 0) then toward s
+    else if not (eqb (link r (other s)) 0) then toward (other s)
+    else Stop
 
--- the walk w goes the whole way, from a root with so many bits left
-pub record Goes (rows : ℕ → Row) (width : ℕ) (whole : Way) (w : Walk) : Type 0 where
-  pub end : toCome rows w .end ≡ whole .end
-  pub bits : toCome rows w .bits ≡ whole .bits
-  pub number : length (toCome rows w .passed) + (width - w .bits) ≡ length (whole .passed)
-  pub above : first-of (last-such anything (toCome rows w .passed)) (remembered rows w (ltb (w .bits) width) (w .bits) (w .above))
-      ≡ last-such anything (whole .passed)
-  pub aside : first-of (last-such right-left-aside (toCome rows w .passed)) (remembered rows w (w .any) (w .beneath) (w .aside))
-      ≡ last-such right-left-aside (whole .passed)
+-- the walk that begins at the part of a row on a side, with m bits left there
+abbrev pub partStart : ℕ → Row → Side → ℕ → Walk
+partStart count r s m = startedAt count (link r s) m (r .entry .key / 2 ^ suc m * 2 + bitOf s) (suc (r .entry .key))

@@ -1,8 +1,17 @@
 // The ordered set of words of 1 to 32 bits, as a PreTree in a lent table of rows.
 // This file has the types of document 01, "Header and table" and "Answer numbers"; each call stands in a module of its own.
 
+mod add;
+mod erase;
+mod fall;
+mod find;
+mod gap;
+mod near;
+mod seek;
 mod table;
 mod walk;
+mod whole;
+mod write;
 
 ghost use mathlib.Core.Path.{_≡_};
 ghost use Rattle.pretree.specs.Reply.{fresh};

@@ -1,13 +1,12 @@
-// A walk is a value: it takes one row after the other and says which row it wants next. It touches no table; only a thin loop does.
-// This one goes by the bits of a word, and stops at the first row whose key is `limit` or more.
+// A walk is a value: it takes one row after the other, with the turn that its way makes there, and says which row it wants next. It
+// touches no table; only a thin loop for each kind of way does. It judges each row that it takes, and remembers what some way will need.
 
 use crate::Header;
 use crate::Row;
 ghost use mathlib.Core.Path.{_≡_};
-ghost use mathlib.Core.Bool.{true};
-ghost use Prim.Native.Nat.{_≤_, _<_};
-ghost use Rattle.ordered.specs.Word.{sideOf};
-ghost use Rattle.pretree.specs.Walk.{started, isOn, holds, ended, remembering, passed, turned, stageAt, met};
+ghost use Prim.Native.Nat.{_≤_, _<_, _^_};
+ghost use Rattle.pretree.specs.Walk.{started, startedAt, isOn, holds, ended, remembering, passed, turned, stageAt, met, rowsRead};
+ghost use Rattle.pretree.specs.Resume.{isDamage, endsAt, resumed};
 
 // Where a walk is: at a row that it wants to read, or at its end, which is an empty link, a row or damage.
 pub enum Stage {
@@ -17,19 +16,25 @@ pub enum Stage {
     AtDamage,
 }
 
+// What a way does at a row.
+pub enum Turn {
+    Stop,
+    Left,
+    Right,
+}
+
 pub struct Walk {
-    pub word: u32,
-    pub limit: u64,
     pub count: u32,
-    // the row that it wants or at which it ended, the bits left there, and the least key that is no damage there
+    // the row that it wants or at which it ended, the bits left there, the path to it as a number, and the least key that is no damage
     pub row: u32,
     pub bits: u32,
+    pub path: u64,
     pub low: u64,
-    // the key of the row at which it ended
+    // the key of the row that it read last
     pub key: u32,
     // the last row that it passed
     pub above: u32,
-    // the deepest row that it passed where it went left and a right link exists, if there is one, with the bits left below it
+    // the deepest row that it passed where it went left and a right link exists, if there is any, with the bits left below it
     pub aside: u32,
     pub beneath: u32,
     pub any: bool,
@@ -38,8 +43,8 @@ pub struct Walk {
 
 impl Walk {
     // "The root is row 0 whenever the count is not 0"; "with a count of 0 every way is empty".
-    pub fn start(h: Header, word: u32, limit: u64) -> Walk
-        ensures { λ r. ⌜ r ≡ started h word limit ⌝ }
+    pub fn start(h: Header) -> Walk
+        ensures { λ r. ⌜ r ≡ started h ⌝ }
     {
         let stage = if h.count == 0 {
             Stage::AtNone
@@ -47,12 +52,31 @@ impl Walk {
             Stage::On
         };
         Walk {
-            word,
-            limit,
             count: h.count,
             row: 0,
             bits: h.width,
+            path: 0,
             low: 0,
+            key: 0,
+            above: 0,
+            aside: 0,
+            beneath: 0,
+            any: false,
+            stage,
+        }
+    }
+
+    // A walk that begins at a link, with so many bits left there.
+    pub fn from(count: u32, link: u32, bits: u32, path: u64, low: u64) -> Walk
+        ensures { λ r. ⌜ r ≡ startedAt count link bits path low ⌝ }
+    {
+        let stage = stage_at(count, link);
+        Walk {
+            count,
+            row: link,
+            bits,
+            path,
+            low,
             key: 0,
             above: 0,
             aside: 0,
@@ -74,8 +98,23 @@ impl Walk {
         }
     }
 
+    // The rows that it has read, from a root with so many bits left.
+    pub fn rows(self, width: u32) -> u32
+        requires { ⌜ (self .bits ≤ width) × (width ≤ 32) ⌝ }
+        ensures { λ r. ⌜ r ≡ rowsRead self width ⌝ }
+    {
+        let passed = width - self.bits;
+        let stage = self.stage;
+        match stage {
+            Stage::AtRow => passed + 1,
+            Stage::On => passed,
+            Stage::AtNone => passed,
+            Stage::AtDamage => passed,
+        }
+    }
+
     // The row that it wants is no damage, but for its number.
-    pub fn holds(self, row: Row) -> bool
+    fn holds(self, row: Row) -> bool
         requires { ⌜ self .bits ≤ 32 ⌝ }
         ensures { λ r. ⌜ r ≡ holds self row ⌝ }
     {
@@ -84,7 +123,7 @@ impl Walk {
         if (key as u64) < self.low {
             return false;
         }
-        if (key as u64) >> bits != (self.word as u64) >> bits {
+        if (key as u64) >> bits != self.path {
             return false;
         }
         if bits != 0 {
@@ -100,11 +139,10 @@ impl Walk {
         ensures { λ r. ⌜ r ≡ ended self stage key ⌝ }
     {
         Walk {
-            word: self.word,
-            limit: self.limit,
             count: self.count,
             row: self.row,
             bits: self.bits,
+            path: self.path,
             low: self.low,
             key,
             above: self.above,
@@ -125,17 +163,16 @@ impl Walk {
         self
     }
 
-    fn passed(self, key: u32, link: u32) -> Walk
-        requires { ⌜ 0 < self .bits ⌝ }
-        ensures { λ r. ⌜ r ≡ passed self key link ⌝ }
+    fn passed(self, key: u32, side: u64, link: u32) -> Walk
+        requires { ⌜ (0 < self .bits) × (self .path < 2 ^ 32) × (side < 2) ⌝ }
+        ensures { λ r. ⌜ r ≡ passed self key side link ⌝ }
     {
         let stage = stage_at(self.count, link);
         Walk {
-            word: self.word,
-            limit: self.limit,
             count: self.count,
             row: link,
             bits: self.bits - 1,
+            path: self.path * 2 + side,
             low: key as u64 + 1,
             key,
             above: self.row,
@@ -147,37 +184,77 @@ impl Walk {
     }
 
     // To the left, a right link is remembered, for `next`.
-    fn turned(self, row: Row, side: u32) -> Walk
-        requires { ⌜ 0 < self .bits ⌝ }
-        ensures { λ r. ⌜ r ≡ turned self row (sideOf side) ⌝ }
+    fn turned(self, row: Row, turn: Turn) -> Walk
+        requires { ⌜ (0 < self .bits) × (self .path < 2 ^ 32) ⌝ }
+        ensures { λ r. ⌜ r ≡ turned self row turn ⌝ }
     {
         let key = row.entry.key;
-        if side != 0 {
-            return self.passed(key, row.right);
+        match turn {
+            Turn::Stop => self.ended(Stage::AtRow, key),
+            Turn::Right => self.passed(key, 1, row.right),
+            Turn::Left => {
+                if row.right == 0 {
+                    self.passed(key, 0, row.left)
+                } else {
+                    self.remembering().passed(key, 0, row.left)
+                }
+            }
         }
-        if row.right == 0 {
-            return self.passed(key, row.left);
-        }
-        self.remembering().passed(key, row.left)
     }
 
     // The walk after the row that it wanted.
-    pub fn met(self, row: Row) -> Walk
+    pub fn met(self, row: Row, turn: Turn) -> Walk
         requires { ⌜ self .bits ≤ 32 ⌝ }
-        ensures { λ r. ⌜ r ≡ met self row ⌝ }
+        ensures { λ r. ⌜ r ≡ met self row turn ⌝ }
     {
         let key = row.entry.key;
-        let bits = self.bits;
         if !self.holds(row) {
             return self.ended(Stage::AtDamage, key);
         }
-        if bits == 0 {
+        if self.bits == 0 {
             return self.ended(Stage::AtRow, key);
         }
-        if self.limit <= key as u64 {
-            return self.ended(Stage::AtRow, key);
+        self.turned(row, turn)
+    }
+
+    // It ended at damage.
+    pub fn is_damaged(self) -> bool
+        ensures { λ r. ⌜ r ≡ isDamage (self .stage) ⌝ }
+    {
+        let stage = self.stage;
+        match stage {
+            Stage::AtDamage => true,
+            Stage::On => false,
+            Stage::AtNone => false,
+            Stage::AtRow => false,
         }
-        self.turned(row, (self.word >> (bits - 1)) % 2)
+    }
+
+    // It ended at the row of that word.
+    pub fn ends_at(self, word: u32) -> bool
+        ensures { λ r. ⌜ r ≡ endsAt word (self .key) (self .stage) ⌝ }
+    {
+        let stage = self.stage;
+        match stage {
+            Stage::AtRow => word == self.key,
+            Stage::On => false,
+            Stage::AtNone => false,
+            Stage::AtDamage => false,
+        }
+    }
+
+    // Where it ended at a row, it wants that row again, to go on from there by another rule.
+    pub fn resumed(self) -> Walk
+        ensures { λ r. ⌜ r ≡ resumed self ⌝ }
+    {
+        let key = self.key;
+        let stage = self.stage;
+        match stage {
+            Stage::AtRow => self.ended(Stage::On, key),
+            Stage::On => self,
+            Stage::AtNone => self,
+            Stage::AtDamage => self,
+        }
     }
 }
 

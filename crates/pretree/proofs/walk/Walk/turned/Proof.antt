@@ -1,57 +1,75 @@
+-- By the turn, and to the left by the right link.
+use Prim.Native.Nat.{ℕ, _<_, _^_}
+use mathlib.Core.Path.{_≡_}
 use borrow.Author.Tests.{eq-eqb, ne-eqb}
-use Prim.Native.Nat.{ℕ, _/_, _^_, _≤_}
-use mathlib.Core.Path.{_≡_, _∙_}
-use Rattle.pretree.specs.Walk.{turned, remembering, passed}
-use native.Mathlib.Omega.{arith}
-use native.Mathlib.Nat.{pos-of-ne-zero}
-use native.Mathlib.Numerals.{sub-one, add-one}
-use Rattle.pretree.proofs.Tests.{inner, goes-right}
+use Rattle.pretree.specs.declared.walk.Turn.the-variants.{Stop, Left, Right}
+use Rattle.pretree.specs.Walk.{turned}
 use borrow.Author.Needs.{needs}
 use Rattle.pretree.proofs.walk.Walk.turned.Statement.{statement}
 use Rattle.pretree.proofs.walk.Walk.turned.Tie as tie
-use Rattle.pretree.proofs.walk.Walk.turned.Reads as reads
-use Rattle.pretree.proofs.walk.Walk.turned.Lts as lts
-use Rattle.pretree.proofs.walk.Walk.passed.Reads as passed-reads
-use Rattle.pretree.proofs.walk.Walk.remembering.Reads as remembering-reads
+
+enum-told : tie.Need-enum-told
+enum-told c = search needs
+
+ended-requires : tie.Need-ended-requires
+ended-requires c κs = search needs
+
+enum-told-2 : tie.Need-enum-told-2
+enum-told-2 c = search needs
 
 passed-requires : tie.Need-passed-requires
 passed-requires c κs = search needs
 
-returns : tie.Need-returns
-unfolding turned
-returns c = simp (goes-right _ (c .before .if1 .taken), c .passed .ensures)
+enum-told-3 : tie.Need-enum-told-3
+enum-told-3 c = search needs
 
 passed-requires-2 : tie.Need-passed-requires-2
 passed-requires-2 c κs = search needs
-
-returns-2 : tie.Need-returns-2
-unfolding turned
-returns-2 c =
-    let a = c .before .before .before .before .args in
-    let zero : a .side ≡ 0 = search needs in
-    simp (zero, eq-eqb _ _ (c .before .if2 .taken), c .passed2 .ensures)
 
 remembering-requires : tie.Need-remembering-requires
 remembering-requires c κs = search needs
 
 passed-requires-3 : tie.Need-passed-requires-3
-passed-requires-3 c κs = simp (c .remembering .ensures) (search needs)
+passed-requires-3 c κs =
+    simp (c .remembering .ensures) (search needs)
+
+returns : tie.Need-returns
+unfolding turned
+returns c =
+    let at : c .before .before .before .args .turn ≡ Stop = search needs in
+    simp (at, c .ended .ensures)
+
+returns-2 : tie.Need-returns-2
+unfolding turned
+returns-2 c =
+    let at : c .before .before .before .args .turn ≡ Right = search needs in
+    simp (at, c .passed .ensures)
 
 returns-3 : tie.Need-returns-3
 unfolding turned
 returns-3 c =
-    let a = c .before .before .before .before .before .args in
-    let zero : a .side ≡ 0 = search needs in
-    simp (zero, ne-eqb _ _ (c .before .before .if2 .left), c .passed3 .ensures, c .before .remembering .ensures)
+    let at : c .before .before .before .before .before .args .turn ≡ Left = search needs in
+    simp (at, eq-eqb _ _ (c .before .if1 .taken), c .passed2 .ensures)
+
+returns-4 : tie.Need-returns-4
+unfolding turned
+returns-4 c =
+    let at : c .before .before .before .before .before .before .args .turn ≡ Left = search needs in
+    simp (at, ne-eqb _ _ (c .before .before .if1 .left), c .before .remembering .ensures, c .passed3 .ensures)
 
 pub turned-spec : {M : Type 1} → statement M
 turned-spec =
     tie.close
     (tie.spec
+    enum-told
+    ended-requires
+    enum-told-2
     passed-requires
-    returns
+    enum-told-3
     passed-requires-2
-    returns-2
     remembering-requires
     passed-requires-3
-    returns-3)
+    returns
+    returns-2
+    returns-3
+    returns-4)

@@ -1,0 +1,208 @@
+-- There is a sound table for every set: one in which the rows stand in the order of the listing, "its key, then its left part, then its
+-- right part".
+use Prim.Native.Nat.{ℕ, zero, suc, _+_, _*_, _^_, _≤_, _<_}
+use mathlib.Core.Path.{_≡_, refl, sym, ap, _∙_}
+use mathlib.Core.Logic.{_⊎_, inl, inr}
+use mathlib.Core.Bool.{true, false≢true}
+use mathlib.Core.List.{List, [], _∷_, _++_, append-assoc}
+use mathlib.Core.List.{List·Memᴰ·head, List·Memᴰ·tail, Memᴰ·append-left, Memᴰ·append-right}
+use native.Mathlib.Omega.{arith}
+use lib.Dec.{eqb·suc-zero}
+use lib.ListN.{length, length-append}
+use lib.Seq.{getD-append-seam, getD-append-add}
+use Rattle.ordered.specs.Such.{if_then_else_}
+use Rattle.ordered.specs.Word.{Side, left, right, bitOf}
+use Rattle.ordered.specs.Dictionary.{Increasing}
+use Rattle.ordered.specs.Said.{_∈_}
+use Rattle.ordered.specs.Tree.{Tree, none, row, damaged, Entry, part, exists, listing, size, intact, unnumbered, treeOf}
+use Rattle.ordered.specs.Proper.{Fitting, Proper}
+use Rattle.ordered.proofs.Parts.{All, none-all, one-all, all-append, each-of-all}
+use Rattle.ordered.proofs.OneTree.{set-proper, set-listing, set-unnumbered, proper-intact, listing-length}
+use Rattle.pretree.specs.declared.Header.{Header}
+use Rattle.pretree.specs.declared.Row.{Row}
+use Rattle.pretree.specs.Table.{rowAt, link}
+use Rattle.pretree.specs.Unfold.{ends-there, linked, unfolded, shown}
+use Rattle.demands.specs.SoundIs.{EverySetHasRows}
+use Rattle.demands.proofs.Unfolding.{both, key, hanging, shown-row}
+use Rattle.demands.proofs.SoundIs.{set-fits, tree-intact, tree-listing, held-by-listing}
+
+-- below a row with number k and left part l, the number of the last row before the part on side s, and that of the part's first row
+abbrev before-part : Side → ℕ → Tree → ℕ
+before-part left k l = k
+before-part right k l = k + size l
+
+abbrev place : Side → ℕ → Tree → ℕ
+place s k l = suc (before-part s k l)
+
+abbrev link-to : ℕ → Tree → ℕ
+link-to k t = if exists t then k else 0
+
+-- the row with number k
+abbrev row-of : ℕ → Entry → Tree → Tree → Row
+row-of k e l r = record { entry = record { key = e .key }; left = link-to (place left k l) l; right = link-to (place right k l) r }
+
+-- the rows of a tree from row k on, as words
+written : ℕ → Tree → List ℕ
+written k none = []
+written k (row i e l r) =
+    e .key ∷ link-to (place left k l) l ∷ link-to (place right k l) r ∷ (written (place left k l) l ++ written (place right k l) r)
+written k damaged = []
+
+-- the rows of a tree stand in a table from row k on
+Standing : (ℕ → Row) → ℕ → Tree → Type 0
+Standing rows k none = Unit {0}
+Standing rows k (row i e l r) = (rows k ≡ row-of k e l r) × Standing rows (place left k l) l × Standing rows (place right k l) r
+Standing rows k damaged = Unit {0}
+
+written-length : (k : ℕ) (t : Tree) → length (written k t) ≡ 3 * size t
+unfolding written size
+written-length k none = refl
+written-length k (row i e l r) =
+    rw length-append (omega (arith, written-length (place left k l) l, written-length (place right k l) r))
+written-length k damaged = refl
+
+row-read :
+    (k a b c : ℕ) (before rest : List ℕ) → length before ≡ 3 * k
+    → rowAt (before ++ (a ∷ b ∷ c ∷ rest)) k ≡ record { entry = record { key = a }; left = b; right = c }
+unfolding rowAt
+row-read k a b c before rest at =
+    let words : List ℕ = a ∷ b ∷ c ∷ rest in
+    rw (← at, getD-append-seam, getD-append-add before words 1 0, getD-append-add before words 2 0)
+
+-- they stand where they are written
+written-stands : (k : ℕ) (t : Tree) (before after : List ℕ) → length before ≡ 3 * k → Standing (rowAt (before ++ (written k t ++ after))) k t
+unfolding written Standing
+written-stands k none before after at = tt
+written-stands k (row i e l r) before after at =
+    let a : ℕ = e .key in
+    let b : ℕ = link-to (place left k l) l in
+    let c : ℕ = link-to (place right k l) r in
+    let lefts : List ℕ = written (place left k l) l in
+    let rights : List ℕ = written (place right k l) r in
+    let up-to-left : List ℕ = before ++ (a ∷ b ∷ c ∷ []) in
+    let up-to-right : List ℕ = before ++ (a ∷ b ∷ c ∷ lefts) in (
+      row-read k a b c before (lefts ++ rights ++ after) at,
+      rw (append-assoc lefts rights after, ← append-assoc before (a ∷ b ∷ c ∷ []) (lefts ++ (rights ++ after)))
+          (written-stands (place left k l) l up-to-left (rights ++ after) (rw length-append (omega arith))),
+      rw (append-assoc lefts rights after, ← append-assoc before (a ∷ b ∷ c ∷ lefts) (rights ++ after))
+          (written-stands (place right k l) r up-to-right after (rw length-append (omega (arith, written-length (place left k l) l)))),
+    )
+written-stands k damaged before after at = tt
+
+module _ (rows : ℕ → Row) (n : ℕ) where
+  link-shows :
+      (f : ℕ → Tree) (k : ℕ) (t : Tree) → (exists t ≡ true → unnumbered (f (suc k)) ≡ unnumbered t)
+      → unnumbered (linked f (link-to (suc k) t)) ≡ unnumbered t
+  unfolding unnumbered
+  link-shows f k none there = refl
+  link-shows f k (row i e l r) there = there refl
+  link-shows f k damaged there = there refl
+
+  part-stands : (k i : ℕ) (e : Entry) (l r : Tree) → Standing rows k (row i e l r) → (s : Side) → Standing rows (place s k l) (part s l r)
+  unfolding Standing
+  part-stands k i e l r stands left = stands .1
+  part-stands k i e l r stands right = stands .2
+
+  part-room : (k : ℕ) (l r : Tree) → k + suc (size l + size r) ≤ n → (s : Side) → place s k l + size (part s l r) ≤ n
+  part-room k l r room left = omega arith
+  part-room k l r room right = omega arith
+
+  link-of-row : (k : ℕ) (e : Entry) (l r : Tree) (s : Side) → link (row-of k e l r) s ≡ link-to (place s k l) (part s l r)
+  link-of-row k e l r left = refl
+  link-of-row k e l r right = refl
+
+  row-shows :
+      (m path low k : ℕ) (e : Entry) (l r : Tree) → rows k ≡ row-of k e l r → k < n → Fitting m path low (e .key)
+      → ends-there m (row-of k e l r) ≡ true → ((s : Side) → unnumbered (hanging rows n m path k s) ≡ unnumbered (part s l r))
+      → unnumbered (unfolded rows n m path low k) ≡ row 0 e (unnumbered l) (unnumbered r)
+  unfolding unnumbered
+  row-shows m path low k e l r same in-use fits ends parts =
+      rw (
+        shown-row rows n m path low k (record { in-use = in-use; key-fits = rw (same, key) fits; links-end = rw same ends }),
+        parts left,
+        parts right,
+        same,
+        key,
+      )
+
+  -- the rows of a tree that stand in a table show the tree
+  standing-shows :
+      (m path low k : ℕ) (t : Tree) → exists t ≡ true → Proper m path low t → Standing rows k t → k + size t ≤ n
+      → unnumbered (unfolded rows n m path low k) ≡ unnumbered t
+  unfolding Proper Standing unnumbered size
+  standing-shows zero path low k none there h stands room = absurd (false≢true there)
+  standing-shows zero path low k (row i e l r) there h stands room =
+      row-shows zero path low k e l r (stands .0) (omega arith) (h .key-fits) (rw (h .parts left, h .parts right)) (λ s. rw (h .parts s))
+  standing-shows zero path low k damaged there h stands room = absurd h
+  standing-shows (suc m) path low k none there h stands room = absurd (false≢true there)
+  standing-shows (suc m) path low k (row i e l r) there h stands room =
+      let low′ : ℕ = suc (e .key) in
+      row-shows (suc m) path low k e l r (stands .0) (omega arith) (h .key-fits) refl
+      (λ s.
+      rw (stands .0, key, link-of-row k e l r s)
+      (link-shows (unfolded rows n m (path * 2 + bitOf s) low′) (before-part s k l) (part s l r)
+      (λ exists. standing-shows m (path * 2 + bitOf s) low′ (place s k l) (part s l r) exists (h .parts s) (part-stands k i e l r stands s) (part-room k l r room s))))
+  standing-shows (suc m) path low k damaged there h stands room = absurd h
+
+set-size : (W : ℕ) (S : List ℕ) → Increasing S → ((x : ℕ) → x ∈ S → x < 2 ^ W) → size (treeOf W S) ≡ length S
+set-size W S rising below = sym (listing-length (treeOf W S)) ∙ ap length (set-listing W 0 0 S rising (set-fits W S below))
+
+-- what the rows of a set show from row 0, where there is one
+root-shows :
+    (W : ℕ) (S rest : List ℕ) → Increasing S → ((x : ℕ) → x ∈ S → x < 2 ^ W) → exists (treeOf W S) ≡ true
+    → unnumbered (unfolded (rowAt (written 0 (treeOf W S) ++ rest)) (length S) W 0 0 0) ≡ treeOf W S
+root-shows W S rest rising below there =
+    standing-shows (rowAt (written 0 (treeOf W S) ++ rest)) (length S) W 0 0 0 (treeOf W S) there
+    (set-proper W 0 0 S rising (set-fits W S below)) (written-stands 0 (treeOf W S) [] rest refl) (omega (arith, set-size W S rising below))
+    ∙ set-unnumbered W S
+
+table-shows :
+    (W : ℕ) (S rest : List ℕ) → Increasing S → ((x : ℕ) → x ∈ S → x < 2 ^ W)
+    → unnumbered (shown (record { width = W; count = length S }) (written 0 (treeOf W S) ++ rest)) ≡ treeOf W S
+unfolding shown unnumbered treeOf
+table-shows zero [] rest rising below = refl
+table-shows zero (x ∷ xs) rest rising below = rw eqb·suc-zero (root-shows zero (x ∷ xs) rest rising below refl)
+table-shows (suc W) [] rest rising below = refl
+table-shows (suc W) (x ∷ xs) rest rising below = rw eqb·suc-zero (root-shows (suc W) (x ∷ xs) rest rising below refl)
+
+-- a word of a set's rows is a key or the number of a row
+module _ (W n : ℕ) where
+  abbrev Word : ℕ → Type 0
+  Word w = (w < 2 ^ W) ⊎ (w < n)
+
+  link-small : (k : ℕ) (t : Tree) → intact t ≡ true → suc k + size t ≤ n → link-to (suc k) t < n
+  unfolding intact size
+  link-small k none whole room = omega arith
+  link-small k (row i e l r) whole room = omega arith
+  link-small k damaged whole room = absurd (false≢true whole)
+
+  written-words : (k : ℕ) (t : Tree) → intact t ≡ true → ((x : ℕ) → x ∈ listing t → x < 2 ^ W) → k + size t ≤ n → All Word (written k t)
+  unfolding written listing intact size
+  written-words k none whole small room = none-all
+  written-words k (row i e l r) whole small room =
+      let b = both (intact l) (intact r) whole in
+      one-all (inl (small (e .key) (List·Memᴰ·head refl)))
+      (one-all (inr (link-small k l (b .0) (omega arith)))
+      (one-all (inr (link-small (k + size l) r (b .1) (omega arith)))
+      (all-append
+      (written-words (place left k l) l (b .0) (λ x there. small x (List·Memᴰ·tail (Memᴰ·append-left (listing r) there))) (omega arith))
+      (written-words (place right k l) r (b .1) (λ x there. small x (List·Memᴰ·tail (Memᴰ·append-right (listing l) there))) (omega arith)))))
+  written-words k damaged whole small room = none-all
+
+pub every-set-has-rows : EverySetHasRows
+every-set-has-rows W S rest rising below =
+    let h : Header = record { width = W; count = length S } in
+    let table : List ℕ = written 0 (treeOf W S) ++ rest in
+    let fits : All (Fitting W 0 0) S = set-fits W S below in
+    let tree : unnumbered (shown h table) ≡ treeOf W S = table-shows W S rest rising below in
+    record {
+      rows = written 0 (treeOf W S);
+      as-many = written-length 0 (treeOf W S) ∙ ap (λ n. 3 * n) (set-size W S rising below);
+      words =
+          λ w there.
+          each-of-all
+          (written-words W (length S) 0 (treeOf W S) (proper-intact W 0 0 (treeOf W S) (set-proper W 0 0 S rising fits))
+          (λ x. rw (← set-listing W 0 0 S rising fits) at (below x)) (omega (arith, set-size W S rising below)))
+          there;
+      held = held-by-listing h table (tree-intact h table S rising below tree) (tree-listing h table S rising below tree) refl;
+    }

@@ -1,0 +1,1 @@
+// Mathematics only: the promises stand in specs/, their proofs in proofs/.

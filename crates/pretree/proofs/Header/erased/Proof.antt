@@ -1,0 +1,87 @@
+-- Where the way of the word ended.
+use mathlib.Core.Path.{refl}
+use Rattle.pretree.proofs.Checks.{right-header}
+use Rattle.pretree.proofs.Erasing.{on-way-damage, not-there}
+use borrow.Author.Needs.{needs}
+use Rattle.pretree.proofs.Header.erased.Statement.{statement}
+use Rattle.pretree.proofs.Header.erased.Tie as tie
+
+way-of-requires : tie.Need-way-of-requires
+way-of-requires c κs =
+    search needs
+
+ends-at-requires : tie.Need-ends-at-requires
+ends-at-requires c κs =
+    search needs
+
+hollowed-requires : tie.Need-hollowed-requires
+hollowed-requires c κs =
+    let start = c .before .before .before .before .before .before in
+    (start .pre .0, (start .pre .1, (c .before .before .before .way-of .ensures, cc)))
+
+same-length : tie.Need-same-length
+same-length c =
+    search needs
+
+returns : tie.Need-returns
+returns c =
+    c .before .before .hollowed .ensures
+
+is-damaged-requires : tie.Need-is-damaged-requires
+is-damaged-requires c κs =
+    search needs
+
+refused-requires : tie.Need-refused-requires
+refused-requires c κs =
+    search needs
+
+same-length-2 : tie.Need-same-length-2
+same-length-2 c =
+    search needs
+
+returns-2 : tie.Need-returns-2
+returns-2 c =
+    let start = c .before .before .before .before .before .before .before .before in
+    let a = start .args in
+    let w = c .before .before .before .before .before .way-of in
+    let outcome = on-way-damage (a .self) (a .table .now) (a .word) (start .pre .0) (start .pre .1) (w .result) (w .ensures) (cc) (cc) in
+    rw outcome (c .refused .ensures, refl)
+
+rows-requires : tie.Need-rows-requires
+rows-requires c κs =
+    let start = c .before .before .before .before .before .before .before in
+    (c .before .before .before .before .way-of .ensures .walking .fits, right-header (start .args .self) (start .args .table .now) (start .pre .0) .at-most-32)
+
+answered-requires : tie.Need-answered-requires
+answered-requires c κs =
+    search needs
+
+same-length-3 : tie.Need-same-length-3
+same-length-3 c =
+    search needs
+
+returns-3 : tie.Need-returns-3
+returns-3 c =
+    let start = c .before .before .before .before .before .before .before .before .before in
+    let a = start .args in
+    let w = c .before .before .before .before .before .before .way-of in
+    let outcome = not-there (a .self) (a .table .now) (a .word) (start .pre .0) (start .pre .1) (w .result) (w .ensures) (cc) (cc) in
+    rw (outcome, ← c .before .rows .ensures) (c .answered .ensures, refl)
+
+pub erased-spec : {M : Type 1} → statement M
+erased-spec =
+    tie.close
+    (tie.spec
+    way-of-requires
+    ends-at-requires
+    hollowed-requires
+    same-length
+    returns
+    is-damaged-requires
+    refused-requires
+    same-length-2
+    returns-2
+    rows-requires
+    answered-requires
+    same-length-3
+    returns-3)

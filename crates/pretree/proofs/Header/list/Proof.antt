@@ -1,0 +1,123 @@
+-- Each test of the code is one of the definition's, and what is written is the listing of the whole tree.
+use Prim.Native.Nat.{_≤_}
+use mathlib.Core.Path.{_≡_, sym, _∙_}
+use mathlib.Core.Bool.{true, false}
+use borrow.Author.Needs.{needs}
+use borrow.Author.Tests.{not-true, not-false, lt-ltb, le-ltb}
+use lib.ListN.{length}
+use Rattle.ordered.specs.Tree.{listing}
+use Rattle.pretree.specs.Sound.{isSound}
+use Rattle.pretree.specs.Reply.{wrong-header}
+use Rattle.pretree.specs.Whole.{listReply, listBuffer}
+use Rattle.pretree.proofs.Parts.{none-shown, sound-listable, sound-listed}
+use Rattle.pretree.proofs.Header.list.Statement.{statement}
+use Rattle.pretree.proofs.Header.list.Tie as tie
+
+-- what is known past the first two refusals
+right-there : (c : tie.Else1) → wrong-header (c .before .before .before .before .args .self) (c .before .before .before .before .args .table .now) ≡ false
+right-there c = sym (c .before .is-wrong .ensures) ∙ c .if1 .left
+
+sound-there : (c : tie.Else2) → isSound (c .before .before .before .before .before .before .args .self) (c .before .before .before .before .before .before .args .table .now) ≡ true
+sound-there c = sym (c .before .is-sound .ensures) ∙ not-false (c .before .is-sound .result) (c .if2 .left)
+
+is-wrong-requires : tie.Need-is-wrong-requires
+is-wrong-requires c κs = search needs
+
+refused-requires : tie.Need-refused-requires
+refused-requires c κs = search needs
+
+returns : tie.Need-returns
+unfolding listReply listBuffer
+returns c =
+    let wrong = sym (c .before .before .is-wrong .ensures) ∙ c .before .if1 .taken in
+    (simp (wrong, c .refused .ensures), simp wrong)
+
+is-sound-requires : tie.Need-is-sound-requires
+is-sound-requires c κs = right-there c
+
+refused-requires-2 : tie.Need-refused-requires-2
+refused-requires-2 c κs = search needs
+
+returns-2 : tie.Need-returns-2
+unfolding listReply listBuffer
+returns-2 c =
+    let e = c .before .before in
+    let damage = sym (e .is-sound .ensures) ∙ not-true (e .is-sound .result) (c .before .if2 .taken) in
+    (simp (right-there (e .before), damage, c .refused2 .ensures), simp (right-there (e .before), damage))
+
+cast-if3 : tie.Need-cast-if3
+cast-if3 c = search needs
+
+refused-requires-3 : tie.Need-refused-requires-3
+refused-requires-3 c κs = search needs
+
+returns-3 : tie.Need-returns-3
+unfolding listReply listBuffer
+returns-3 c =
+    let e = c .before .before in
+    let short = lt-ltb _ _ (c .before .if3 .taken) in
+    (simp (right-there (e .before .before), sound-there e, short, c .refused3 .ensures), simp (right-there (e .before .before), sound-there e, short))
+
+done-requires : tie.Need-done-requires
+done-requires c κs = search needs
+
+returns-4 : tie.Need-returns-4
+unfolding listReply listBuffer listing
+returns-4 c =
+    let e = c .before .before .before in
+    let a = e .before .before .before .before .before .before .args in
+    let good = right-there (e .before .before) in
+    let room = le-ltb _ _ (c .before .before .if3 .left) in
+    let empty = c .before .if4 .taken in
+    (simp (good, sound-there e, room, c .done .ensures), simp (good, sound-there e, room) (rw (none-shown (a .self) (a .table .now) empty, empty)))
+
+root-requires : tie.Need-root-requires
+root-requires c κs = search needs
+
+row-listed-requires : tie.Need-row-listed-requires
+row-listed-requires c κs =
+    let d = c .before .before in
+    let e = d .before .before in
+    let a = e .before .before .before .before .before .before .args in
+    rw (c .before .root .ensures) (sound-listable (a .self) (a .table .now) (sound-there e) (a .buffer .now) (d .before .if3 .left) (right-there (e .before .before)) (d .if4 .left))
+
+done-requires-2 : tie.Need-done-requires-2
+done-requires-2 c κs = search needs
+
+same-length : tie.Need-same-length
+same-length c = search needs
+
+returns-5 : tie.Need-returns-5
+unfolding listReply listBuffer
+returns-5 c =
+    let g = c .before .before .before in
+    let d = g .before .before .before in
+    let e = d .before .before in
+    let a = e .before .before .before .before .before .before .args in
+    let good = right-there (e .before .before) in
+    let fits : a .self .count ≤ length (a .buffer .now) = d .before .if3 .left in
+    let room = le-ltb _ _ fits in
+    let written = rw (g .before .before .root .ensures) at (g .row-listed .ensures .1) in
+    let all = sound-listed (a .self) (a .table .now) (sound-there e) (a .buffer .now) fits (d .if4 .left) in
+    (simp (good, sound-there e, room, c .done2 .ensures), simp (good, sound-there e, room) (rw written all))
+
+pub list-spec : {M : Type 1} → statement M
+list-spec =
+    tie.close
+    (tie.spec
+    is-wrong-requires
+    refused-requires
+    returns
+    is-sound-requires
+    refused-requires-2
+    returns-2
+    cast-if3
+    refused-requires-3
+    returns-3
+    done-requires
+    returns-4
+    root-requires
+    row-listed-requires
+    done-requires-2
+    same-length
+    returns-5)

@@ -1,0 +1,91 @@
+-- The checks of document 01's order, and then what `prev_at` answers where the walk ended.
+use mathlib.Core.Path.{_≡_, sym, _∙_}
+use mathlib.Core.Bool.{true, false}
+use Rattle.pretree.specs.Reply.{wrong-header, too-wide}
+use Rattle.pretree.specs.Find.{prevReply}
+use Rattle.pretree.proofs.Checks.{right-header}
+use Rattle.pretree.proofs.Ended.{few-rows}
+use Rattle.pretree.proofs.Neighbours.{prev-at}
+use borrow.Author.Needs.{needs}
+use Rattle.pretree.proofs.Header.prev.Statement.{statement}
+use Rattle.pretree.proofs.Header.prev.Tie as tie
+
+is-wrong-requires : tie.Need-is-wrong-requires
+is-wrong-requires c κs = search needs
+
+refused-requires : tie.Need-refused-requires
+refused-requires c κs = search needs
+
+returns : tie.Need-returns
+unfolding prevReply
+returns c =
+    let p = c .before .before in
+    let a = p .before .before .args in
+    let wrong : wrong-header (a .self) (a .table .now) ≡ true = sym (p .is-wrong .ensures) ∙ c .before .if1 .taken in
+    simp (wrong, c .refused .ensures)
+
+is-exceeded-by-requires : tie.Need-is-exceeded-by-requires
+is-exceeded-by-requires c κs =
+    let p = c .before in
+    let a = p .before .before .args in
+    right-header (a .self) (a .table .now) (sym (p .is-wrong .ensures) ∙ c .if1 .left) .at-most-32
+
+refused-requires-2 : tie.Need-refused-requires-2
+refused-requires-2 c κs = search needs
+
+returns-2 : tie.Need-returns-2
+unfolding prevReply
+returns-2 c =
+    let p = c .before .before .before .before in
+    let a = p .before .before .args in
+    let fine : wrong-header (a .self) (a .table .now) ≡ false = sym (p .is-wrong .ensures) ∙ c .before .before .before .if1 .left in
+    let wide : too-wide (a .self) (a .word) ≡ true = sym (c .before .before .is-exceeded-by .ensures) ∙ c .before .if2 .taken in
+    simp (fine, wide, c .refused2 .ensures)
+
+way-of-requires : tie.Need-way-of-requires
+way-of-requires c κs =
+    let p = c .before .before .before in
+    sym (p .is-wrong .ensures) ∙ c .before .before .if1 .left
+
+rows-requires : tie.Need-rows-requires
+rows-requires c κs =
+    let p = c .before .before .before .before in
+    let a = p .before .before .args in
+    let fine : wrong-header (a .self) (a .table .now) ≡ false = sym (p .is-wrong .ensures) ∙ c .before .before .before .if1 .left in
+    (c .way-of .ensures .walking .fits, right-header (a .self) (a .table .now) fine .at-most-32)
+
+prev-at-requires : tie.Need-prev-at-requires
+prev-at-requires c κs =
+    let q = c .before in
+    let p = q .before .before .before .before in
+    let a = p .before .before .args in
+    let fine : wrong-header (a .self) (a .table .now) ≡ false = sym (p .is-wrong .ensures) ∙ q .before .before .before .if1 .left in
+    let few = few-rows (q .way-of .result) (a .self .width) (right-header (a .self) (a .table .now) fine .at-most-32) in (
+      record { fine = fine; few = rw (c .rows .ensures) few },
+      rw (q .way-of .ensures .walking .same-count) at (q .way-of .ensures .walking .memory .above-used),
+    )
+
+returns-3 : tie.Need-returns-3
+returns-3 c =
+    let q = c .before .before in
+    let p = q .before .before .before .before in
+    let a = p .before .before .args in
+    let fine : wrong-header (a .self) (a .table .now) ≡ false = sym (p .is-wrong .ensures) ∙ q .before .before .before .if1 .left in
+    let small : too-wide (a .self) (a .word) ≡ false = sym (q .before .before .is-exceeded-by .ensures) ∙ q .before .if2 .left in
+    let gone = prev-at (a .self) (a .table .now) (a .word) (q .way-of .result) fine small (q .way-of .ensures) in
+    c .prev-at .ensures ∙ rw (c .before .rows .ensures) (sym gone)
+
+pub prev-spec : {M : Type 1} → statement M
+prev-spec =
+    tie.close
+    (tie.spec
+    is-wrong-requires
+    refused-requires
+    returns
+    is-exceeded-by-requires
+    refused-requires-2
+    returns-2
+    way-of-requires
+    rows-requires
+    prev-at-requires
+    returns-3)

@@ -1,0 +1,236 @@
+-- The replies of the calls that answer a word, from the walks that went their ways.
+use Prim.Native.Nat.{ℕ, suc, _+_, _%_, _≤_, _<_}
+use mathlib.Core.Path.{_≡_, refl, sym, ap, ap₂, _∙_}
+use mathlib.Core.Bool.{Bool, true, false, not, _&&_, _||_, or-false}
+use mathlib.Core.List.{List, [], _∷_}
+use native.Mathlib.Nat.{add-zero}
+use lib.Dec.{ltb, eqb}
+use Rattle.ordered.specs.Such.{if_then_else_, Perhaps, such, no-such, only-if, last-such, anything}
+use Rattle.ordered.specs.Tree.{Tree, none}
+use Rattle.ordered.specs.Way.{Way, Step, Rule, way, rows, broken, isDamaged, ending, following, staying, down}
+use Rattle.ordered.specs.Word.{Side, left, right, sideOf, isSide}
+use Rattle.ordered.specs.Reading.{Reading, rowsOf, brokenIn, keyAt, to-its-end, right-child, next-by, left-left-aside, prev-by, first, last, next, prev}
+use Rattle.ordered.proofs.Parts.{same-last}
+use Rattle.ordered.proofs.Ways.{passed-pass, following-seeks}
+use Rattle.pretree.specs.declared.Header.{Header}
+use Rattle.pretree.specs.declared.Answer.the-variants.{Word, Damage, NoSuchWord}
+use Rattle.pretree.specs.declared.Reply.{Reply}
+use Rattle.pretree.specs.declared.walk.Stage.{Stage}
+use Rattle.pretree.specs.declared.walk.Stage.the-variants.{On, AtNone, AtRow, AtDamage}
+use Rattle.pretree.specs.declared.walk.Walk.{Walk}
+use Rattle.pretree.specs.Table.{rowAt}
+use Rattle.pretree.specs.Unfold.{shown}
+use Rattle.pretree.specs.Reply.{wrong-header, too-wide, refused, answered}
+use Rattle.pretree.specs.Find.{read-reply, saying, firstReply, lastReply, nextReply, prevReply}
+use Rattle.pretree.specs.Found.{word-by, then-by, aside-from, next-from, above-by, above-from, prev-from}
+use Rattle.pretree.specs.Walk.{started, partStart, below, seeking, stepAt, remembered, rowsRead, Walked, Fell}
+use Rattle.pretree.proofs.Ended.{endsIn, all-gone, rows-gone}
+use Rattle.pretree.proofs.Unfolding.{there}
+use Rattle.pretree.proofs.Seeking.{following-is, passing-equal-is}
+use Rattle.pretree.proofs.Walking.{root-standing, part-standing}
+
+-- a call whose answer is where its one way ends
+module _ (h : Header) (table : List ℕ) (fine : wrong-header h table ≡ false) (f : Rule) (w : Walk)
+    (gone : Walked (rowAt table) f (h .width) (h .count) (shown h table) w) where
+  pub word-at : read-reply h table false Word (to-its-end [] (way f (h .width) (shown h table))) ≡ word-by h (w .key) (rowsRead w (h .width)) (w .stage)
+  unfolding brokenIn broken rowsOf
+  word-at = rw (fine, rows-gone _ _ _ _ _ w gone, add-zero, all-gone _ _ _ _ _ w gone .end) (by-stage (w .stage))
+    where
+      by-stage : (stage : Stage)
+          → (let t : Tree = endsIn (rowAt table) w stage in
+          if isDamaged t || false then refused h Damage else answered h (saying Word (keyAt t)) (rowsRead w (h .width)))
+          ≡ word-by h (w .key) (rowsRead w (h .width)) stage
+      by-stage On = refl
+      by-stage AtNone = refl
+      by-stage AtRow = refl
+      by-stage AtDamage = refl
+
+-- from the root
+module _ (h : Header) (table : List ℕ) (f : Rule) (w : Walk) (fell : Fell (rowAt table) f (started h) w) where
+  pub from-root : Walked (rowAt table) f (h .width) (h .count) (shown h table) w
+  from-root = rw (root-standing h table) at (fell .walked)
+
+module _ (h : Header) (table : List ℕ) (fine : wrong-header h table ≡ false) (w : Walk) where
+  pub first-at : Fell (rowAt table) staying (started h) w → firstReply h table ≡ word-by h (w .key) (rowsRead w (h .width)) (w .stage)
+  unfolding firstReply first
+  first-at fell = word-at h table fine staying w (from-root h table staying w fell)
+
+  pub last-at : Fell (rowAt table) (down right) (started h) w → lastReply h table ≡ word-by h (w .key) (rowsRead w (h .width)) (w .stage)
+  unfolding lastReply last
+  last-at fell = word-at h table fine (down right) w (from-root h table (down right) w fell)
+
+-- the word at which a second way ends, from the part of row i on a side, after n rows
+module _ (h : Header) (table : List ℕ) (n m i : ℕ) (s : Side) (f : Rule) (w : Walk)
+    (fell : Fell (rowAt table) f (partStart (h .count) (rowAt table i) s m) w) where
+  gone-on : Walked (rowAt table) f m (h .count) (below (rowAt table) (h .count) (suc m) i s) w
+  gone-on = rw (part-standing table (h .count) m i s) at (fell .walked)
+
+  pub part-fits : w .bits ≤ m
+  part-fits = gone-on .walking .fits
+
+  pub then-at : then-by h n (way f m (below (rowAt table) (h .count) (suc m) i s)) ≡ word-by h (w .key) (n + rowsRead w m) (w .stage)
+  unfolding broken
+  then-at = rw (rows-gone _ _ _ _ _ w gone-on, all-gone _ _ _ _ _ w gone-on .end) (by-stage (w .stage))
+    where
+      by-stage : (stage : Stage)
+          → (let t : Tree = endsIn (rowAt table) w stage in
+          if isDamaged t then refused h Damage else answered h (saying Word (keyAt t)) (n + rowsRead w m))
+          ≡ word-by h (w .key) (n + rowsRead w m) stage
+      by-stage On = refl
+      by-stage AtNone = refl
+      by-stage AtRow = refl
+      by-stage AtDamage = refl
+
+-- the reply of a reading, once the checks are passed
+abbrev reply-of : Header → Reading → Reply
+reply-of h r =
+    if brokenIn (r .ways) then refused h Damage
+    else answered h (saying Word (r .answer)) (rowsOf (r .ways))
+
+-- a way that ends at damage is broken, and no other
+broken-end : (w : Way) {t : Tree} → w .end ≡ t → broken w ≡ isDamaged t
+unfolding broken
+broken-end w e = rw e
+
+module _ (h : Header) (w : Way) (n : ℕ) (so-many : rows w ≡ n) where
+  -- damage on its first way is damage
+  broken-first : (vs : List Way) (a : Perhaps ℕ) → broken w ≡ true → reply-of h (record { ways = w ∷ vs; answer = a }) ≡ refused h Damage
+  unfolding brokenIn
+  broken-first vs a b = rw b
+
+  -- one way
+  alone : (a : Perhaps ℕ) → broken w ≡ false → reply-of h (record { ways = w ∷ []; answer = a }) ≡ answered h (saying Word a) n
+  unfolding brokenIn rowsOf
+  alone a b = rw (b, so-many, add-zero)
+
+  -- a second one, whose end is the answer
+  and-then : (v : Way) → broken w ≡ false → reply-of h (to-its-end (w ∷ []) v) ≡ then-by h n v
+  unfolding brokenIn rowsOf
+  and-then v b = rw (b, or-false, so-many, add-zero)
+
+module _ (h : Header) (table : List ℕ) (k : ℕ) (w : Walk) (fine : wrong-header h table ≡ false) (small : too-wide h k ≡ false)
+    (gone : Walked (rowAt table) (seeking (suc k) k) (h .width) (h .count) (shown h table) w) where
+  abbrev n : ℕ
+  n = rowsRead w (h .width)
+
+  abbrev way-gone : Way
+  way-gone = way (seeking (suc k) k) (h .width) (shown h table)
+
+  abbrev part-at : Stage → Tree
+  part-at = endsIn (rowAt table) w
+
+  -- the right child of the row that is remembered, if any is
+  aside-at : (any : Bool) → broken way-gone ≡ false
+      → reply-of h (to-its-end (way-gone ∷ []) (right-child (remembered (rowAt table) (h .count) any (w .beneath) (w .aside) left)))
+      ≡ aside-from h (rowAt table) n any (w .beneath) (w .aside)
+  unfolding stepAt broken rows
+  aside-at true whole = and-then h way-gone n (rows-gone _ _ _ _ _ w gone) _ whole
+  aside-at false whole = and-then h way-gone n (rows-gone _ _ _ _ _ w gone) _ whole ∙ nothing
+    where
+      nothing : then-by h n (ending 0 none) ≡ answered h NoSuchWord n
+      nothing = rw add-zero
+
+  by-stage : (stage : Stage) → way-gone .end ≡ part-at stage
+      → reply-of h (next-by way-gone (only-if (ltb k) (keyAt (part-at stage))) (remembered (rowAt table) (h .count) (w .any) (w .beneath) (w .aside) left))
+      ≡ next-from h (rowAt table) k stage (w .key) n (w .any) (w .beneath) (w .aside)
+  by-stage On e = aside-at (w .any) (broken-end way-gone e)
+  by-stage AtNone e = aside-at (w .any) (broken-end way-gone e)
+  by-stage AtDamage e = broken-first h way-gone n (rows-gone _ _ _ _ _ w gone) (child ∷ []) (keyAt (child .end)) (broken-end way-gone e)
+    where
+      child : Way
+      child = right-child (remembered (rowAt table) (h .count) (w .any) (w .beneath) (w .aside) left)
+  by-stage AtRow e = by-key (ltb k (w .key))
+    where
+      by-key : (b : Bool)
+          → reply-of h (next-by way-gone (if b then such (w .key) else no-such) (remembered (rowAt table) (h .count) (w .any) (w .beneath) (w .aside) left))
+          ≡ (if b then answered h (Word (w .key)) n else aside-from h (rowAt table) n (w .any) (w .beneath) (w .aside))
+      by-key true = alone h way-gone n (rows-gone _ _ _ _ _ w gone) (such (w .key)) (broken-end way-gone e)
+      by-key false = aside-at (w .any) (broken-end way-gone e)
+
+  pub next-at : nextReply h table k ≡ next-from h (rowAt table) k (w .stage) (w .key) n (w .any) (w .beneath) (w .aside)
+  unfolding nextReply next
+  next-at =
+      rw (fine, small, passing-equal-is k)
+      (ap₂ (λ (end : Tree) (p : Perhaps Step). reply-of h (next-by way-gone (only-if (ltb k) (keyAt end)) p)) (all-gone _ _ _ _ _ w gone .end)
+      (all-gone _ _ _ _ _ w gone .aside
+      ∙ ap (λ (c : ℕ). remembered (rowAt table) c (w .any) (w .beneath) (w .aside) left) (gone .walking .same-count))
+      ∙ by-stage (w .stage) (all-gone _ _ _ _ _ w gone .end))
+
+module _ (h : Header) (table : List ℕ) (k : ℕ) (w : Walk) (fine : wrong-header h table ≡ false) (small : too-wide h k ≡ false)
+    (gone : Walked (rowAt table) (seeking k k) (h .width) (h .count) (shown h table) w) where
+  abbrev way-of-k : Way
+  way-of-k = way (seeking k k) (h .width) (shown h table)
+
+  abbrev rows-of-k : ℕ
+  rows-of-k = rowsRead w (h .width)
+
+  so-many-rows : rows way-of-k ≡ rows-of-k
+  so-many-rows = rows-gone _ _ _ _ _ w gone
+
+  -- the row above, or the greatest word of its left part
+  abbrev passed-above : Bool → Perhaps Step
+  passed-above b = remembered (rowAt table) (h .count) b (w .bits) (w .above) (sideOf (w .path % 2))
+
+  turned-aside : left-left-aside (stepAt (rowAt table) (h .count) (w .bits) (w .above) (sideOf (w .path % 2)))
+      ≡ (isSide right (sideOf (w .path % 2)) && not (eqb (rowAt table (w .above) .left) 0))
+  unfolding stepAt
+  turned-aside = rw (there (rowAt table) (h .count) (w .bits) _ _ (rowAt table (w .above) .left))
+
+  above-with : (b : Bool) → broken way-of-k ≡ false
+      → reply-of h (prev-by way-of-k no-such (passed-above b))
+      ≡ (if b then above-by h (rowAt table) rows-of-k (w .bits) (w .above) (isSide right (sideOf (w .path % 2)) && not (eqb (rowAt table (w .above) .left) 0))
+      else answered h NoSuchWord rows-of-k)
+  unfolding stepAt
+  above-with false whole = alone h way-of-k rows-of-k so-many-rows no-such whole
+  above-with true whole = rw turned-aside (go (isSide right (sideOf (w .path % 2)) && not (eqb (rowAt table (w .above) .left) 0)))
+    where
+      p : Step
+      p = stepAt (rowAt table) (h .count) (w .bits) (w .above) (sideOf (w .path % 2))
+
+      go : (b : Bool)
+          → reply-of h (if b then to-its-end (way-of-k ∷ []) (way (down right) (p .below) (p .left-part)) else record { ways = way-of-k ∷ []; answer = such (p .entry .key) })
+          ≡ above-by h (rowAt table) rows-of-k (w .bits) (w .above) b
+      go true = and-then h way-of-k rows-of-k so-many-rows _ whole
+      go false = alone h way-of-k rows-of-k so-many-rows (such (rowAt table (w .above) .entry .key)) whole
+
+  -- every row that the way of k passed has a key below k
+  below-k : last-such (λ (s : Step). ltb (s .entry .key) k) (way-of-k .passed) ≡ last-such anything (way-of-k .passed)
+  below-k = rw (← following-is k) (same-last (way (following k) (h .width) (shown h table) .passed) (passed-pass (following k) (λ x. ltb x k) k (following-seeks k) (h .width) (shown h table)))
+
+  prev-by-stage : (stage : Stage) → way-of-k .end ≡ endsIn (rowAt table) w stage
+      → reply-of h (prev-by way-of-k (only-if (λ x. ltb x k) (keyAt (endsIn (rowAt table) w stage))) (passed-above (ltb (w .bits) (h .width))))
+      ≡ prev-from h (rowAt table) k stage (w .key) rows-of-k (w .bits) (w .path) (w .above)
+  prev-by-stage On e = above-with (ltb (w .bits) (h .width)) (broken-end way-of-k e)
+  prev-by-stage AtNone e = above-with (ltb (w .bits) (h .width)) (broken-end way-of-k e)
+  prev-by-stage AtDamage e = any-broken (passed-above (ltb (w .bits) (h .width)))
+    where
+      b : broken way-of-k ≡ true
+      b = broken-end way-of-k e
+
+      any-broken : (p : Perhaps Step) → reply-of h (prev-by way-of-k no-such p) ≡ refused h Damage
+      any-broken no-such = broken-first h way-of-k rows-of-k so-many-rows [] no-such b
+      any-broken (such p) = go (left-left-aside p)
+        where
+          d : Way
+          d = way (down right) (p .below) (p .left-part)
+
+          go : (c : Bool)
+              → reply-of h (if c then to-its-end (way-of-k ∷ []) d else record { ways = way-of-k ∷ []; answer = such (p .entry .key) }) ≡ refused h Damage
+          go true = broken-first h way-of-k rows-of-k so-many-rows (d ∷ []) (keyAt (d .end)) b
+          go false = broken-first h way-of-k rows-of-k so-many-rows [] (such (p .entry .key)) b
+  prev-by-stage AtRow e = by-key (ltb (w .key) k)
+    where
+      by-key : (b : Bool)
+          → reply-of h (prev-by way-of-k (if b then such (w .key) else no-such) (passed-above (ltb (w .bits) (h .width))))
+          ≡ (if b then answered h (Word (w .key)) rows-of-k else above-from h (rowAt table) rows-of-k (w .bits) (w .path) (w .above))
+      by-key true = alone h way-of-k rows-of-k so-many-rows (such (w .key)) (broken-end way-of-k e)
+      by-key false = above-with (ltb (w .bits) (h .width)) (broken-end way-of-k e)
+
+  pub prev-at : prevReply h table k ≡ prev-from h (rowAt table) k (w .stage) (w .key) rows-of-k (w .bits) (w .path) (w .above)
+  unfolding prevReply prev
+  prev-at =
+      rw (fine, small, following-is k)
+      (ap₂ (λ (end : Tree) (p : Perhaps Step). reply-of h (prev-by way-of-k (only-if (λ x. ltb x k) (keyAt end)) p)) (all-gone _ _ _ _ _ w gone .end)
+      (below-k ∙ all-gone _ _ _ _ _ w gone .above
+      ∙ ap (λ (c : ℕ). remembered (rowAt table) c (ltb (w .bits) (h .width)) (w .bits) (w .above) (sideOf (w .path % 2))) (gone .walking .same-count))
+      ∙ prev-by-stage (w .stage) (all-gone _ _ _ _ _ w gone .end))

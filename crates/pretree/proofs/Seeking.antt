@@ -1,0 +1,34 @@
+-- The turn by a word's bits is what its rule says; and the rules of document 01's ways by a word, each with its limit.
+use Prim.Native.Nat.{ℕ, suc, pred, _≤_, _<_}
+use mathlib.Core.Path.{_≡_, refl, sym}
+use mathlib.Core.Bool.{Bool, true, false}
+use native.Mathlib.Nat.{suc-ne-zero}
+use lib.Dec.{ltb, leb, eqb, leb·suc-suc}
+use borrow.Author.Tests.{ne-eqb, lt-ltb, le-ltb, leb-true, leb-false}
+use Rattle.ordered.specs.Such.{if_then_else_}
+use Rattle.ordered.specs.Word.{Side, left, right, side}
+use Rattle.ordered.specs.Tree.{Tree, Entry}
+use Rattle.ordered.specs.Way.{following, passing-equal, to, stop}
+use Rattle.pretree.specs.declared.walk.Turn.the-variants.{Stop}
+use Rattle.pretree.specs.Walk.{turnOf, toward, seeking, seekTurn}
+
+pub turn-toward : (s : Side) → turnOf (toward s) ≡ to s
+turn-toward left = refl
+turn-toward right = refl
+
+pub seek-says : (limit k bits m : ℕ) (e : Entry) (l r : Tree) → bits ≡ suc m → seeking limit k m e l r ≡ turnOf (seekTurn limit k (e .key) bits)
+unfolding seeking
+seek-says limit k bits m e l r bits-are = rw (bits-are, ne-eqb (suc m) 0 (suc-ne-zero m)) (go (leb limit (e .key)) refl)
+  where
+    go : (b : Bool) → leb limit (e .key) ≡ b
+        → (if ltb (e .key) limit then to (side m k) else stop) ≡ turnOf (if b then Stop else toward (side m k))
+    go true h = rw (le-ltb (e .key) limit (leb-true limit (e .key) h))
+    go false h = rw (lt-ltb (e .key) limit (leb-false limit (e .key) h)) (sym (turn-toward (side m k)))
+
+pub following-is : (k : ℕ) → following k ≡ seeking k k
+unfolding following seeking
+following-is k = refl
+
+pub passing-equal-is : (k : ℕ) → passing-equal k ≡ seeking (suc k) k
+unfolding passing-equal seeking
+passing-equal-is k = λ i m e l r. if sym (leb·suc-suc (e .key) k) i then to (side m k) else stop

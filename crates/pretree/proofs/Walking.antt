@@ -1,0 +1,527 @@
+-- A walk goes the way of its rule: the row that it meets takes one row off the way that is still to come. Whatever the rule.
+use Prim.Native.Nat.{ℕ, zero, suc, pred, _+_, _*_, _-_, _/_, _%_, _^_, _≤_, _<_}
+use mathlib.Core.Path.{_≡_, refl, sym, ap, _∙_, subst}
+use mathlib.Core.Bool.{Bool, true, false, not, _&&_, true≢false}
+use mathlib.Core.List.{List, [], _∷_}
+use native.Mathlib.Nat.{suc-ne-zero, le-trans, le-refl, lt-irrefl, pred-le, add-zero, sub-self, pos-of-ne-zero}
+use native.Mathlib.Omega.{arith}
+use lib.Dec.{ltb, leb, eqb}
+use lib.ListN.{length}
+use borrow.Author.Tests.{lt-ltb, le-ltb, ne-eqb, ltb-true, eqb-true, eqb-false}
+use Rattle.ordered.specs.Such.{if_then_else_, Perhaps, no-such, such, first-of, last-such, anything}
+use Rattle.ordered.specs.Word.{Side, left, right, sideOf, bitOf, isSide}
+use Rattle.ordered.specs.Tree.{Tree, none, row, damaged, Entry, part, exists}
+use Rattle.ordered.specs.Way.{Way, Step, Rule, way, ending, passing, turning, stop, to}
+use Rattle.ordered.specs.Reading.{right-left-aside}
+use Rattle.ordered.proofs.Parts.{first-of-assoc, first-of-no-such}
+use Rattle.pretree.specs.declared.Header.{Header}
+use Rattle.pretree.specs.declared.Row.{Row}
+use Rattle.pretree.specs.declared.walk.Stage.{Stage}
+use Rattle.pretree.specs.declared.walk.Stage.the-variants.{On, AtNone, AtRow, AtDamage}
+use Rattle.pretree.specs.declared.walk.Turn.{Turn}
+use Rattle.pretree.specs.declared.walk.Turn.the-variants.{Stop, Left, Right}
+use Rattle.pretree.specs.declared.walk.Walk.{Walk}
+use Rattle.pretree.specs.Table.{capacity, rowAt, link}
+use Rattle.pretree.specs.Unfold.{judged, linked, unfolded, shown}
+use Rattle.pretree.specs.Walk.{isOn, started, startedAt, holds, ended, remembering, passed, turned, stageAt, met, turnOf, toward, treeAt, to-come, toCome, below, stepAt, remembered, Goes, Placed, Memory, Walking, Begun, standing, partStart}
+use Rattle.pretree.proofs.Unfolding.{is-damaged, is-row, path-in-key, there}
+
+-- where a way ends at once
+pub at-none : (f : Rule) (m : ℕ) → way f m none ≡ ending m none
+unfolding way
+at-none f zero = refl
+at-none f (suc m) = refl
+
+pub at-damage : (f : Rule) (m : ℕ) → way f m damaged ≡ ending m damaged
+unfolding way
+at-damage f zero = refl
+at-damage f (suc m) = refl
+
+-- with no bit left
+at-bottom : (f : Rule) (t : Tree) (m : ℕ) → m ≡ 0 → way f m t ≡ ending m t
+unfolding way
+at-bottom f t zero h = refl
+at-bottom f t (suc m) h = absurd (suc-ne-zero m h)
+
+-- at a row, as the rule says
+module _ (f : Rule) (m i : ℕ) (e : Entry) (l r : Tree) where
+  stops-at : f m e l r ≡ stop → way f (suc m) (row i e l r) ≡ ending (suc m) (row i e l r)
+  unfolding way
+  stops-at h = rw h
+
+  turns-at : (s : Side) → f m e l r ≡ to s
+      → way f (suc m) (row i e l r)
+      ≡ passing (record { at = i; entry = e; turn = s; left-part = l; right-part = r; below = m }) (way f m (part s l r))
+  unfolding way
+  turns-at s h = rw h
+
+-- what a link leads to, and the stage at which a walk by that link is
+module _ (rows : ℕ → Row) (f : Rule) (n m path low : ℕ) where
+  abbrev led : ℕ → Stage → Way
+  led i On = way f m (unfolded rows n m path low i)
+  led i AtNone = ending m none
+  led i AtRow = ending m (unfolded rows n m path low i)
+  led i AtDamage = ending m damaged
+
+  leads : (i : ℕ) → way f m (linked (unfolded rows n m path low) i) ≡ led i (stageAt n i)
+  leads zero = at-none f m
+  leads (suc i) = rw (ne-eqb (suc i) 0 (suc-ne-zero i)) (go (ltb (suc i) n) refl)
+    where
+      go : (b : Bool) → ltb (suc i) n ≡ b → way f m (unfolded rows n m path low (suc i)) ≡ led (suc i) (if b then On else AtDamage)
+      go true h = refl
+      go false h = rw (is-damaged rows n m path low (suc i) (rw h)) (at-damage f m)
+
+-- a row is passed to a side, and the way goes on where its link leads
+module _ (rows : ℕ → Row) (f : Rule) (n m i : ℕ) (s : Side) where
+  abbrev onward : Way
+  onward = led rows f n m (rows i .entry .key / 2 ^ suc m * 2 + bitOf s) (suc (rows i .entry .key)) (link (rows i) s) (stageAt n (link (rows i) s))
+
+  part-below : (t : Side) → part t (below rows n (suc m) i left) (below rows n (suc m) i right) ≡ below rows n (suc m) i t
+  part-below left = refl
+  part-below right = refl
+
+  row-passed : f m (record { key = rows i .entry .key }) (below rows n (suc m) i left) (below rows n (suc m) i right) ≡ to s
+      → way f (suc m) (row i (record { key = rows i .entry .key }) (below rows n (suc m) i left) (below rows n (suc m) i right))
+      ≡ passing (stepAt rows n m i s) onward
+  unfolding stepAt
+  row-passed h =
+      turns-at f m i _ _ _ s h
+      ∙ ap (passing (stepAt rows n m i s)) (rw (part-below s) (leads rows f n m _ (suc (rows i .entry .key)) (link (rows i) s)))
+
+-- the side of the last bit of a path
+last-bit : (path : ℕ) (s : Side) → sideOf ((path * 2 + bitOf s) % 2) ≡ s
+last-bit path left = let even : (path * 2 + 0) % 2 ≡ 0 = omega arith in rw even
+last-bit path right = let odd : (path * 2 + 1) % 2 ≡ 1 = omega arith in rw odd
+
+module _ (rows : ℕ → Row) (width : ℕ) (whole : Way) (w : Walk) where
+  -- a walk that ends has passed and remembers what it had
+  ended-goes : (stage : Stage) (key : ℕ) (coming : Way) → Goes rows width whole w coming → Goes rows width whole (ended w stage key) coming
+  ended-goes stage key coming g = record { end = g .end; bits = g .bits; number = g .number; above = g .above; aside = g .aside }
+
+  -- a walk that passes a row has passed one more, and remembers it
+  module _ (m : ℕ) (s : Side) (coming : Way) (e : w .bits ≡ suc m) (fits : suc m ≤ width)
+      (g : Goes rows width whole w (passing (stepAt rows (w .count) m (w .row) s) coming)) where
+    abbrev here : Step
+    here = stepAt rows (w .count) m (w .row) s
+
+    -- with what it remembers aside, if that is right
+    remembers : (v : Walk) (key l : ℕ) → v .bits ≡ suc m → v .row ≡ w .row → v .count ≡ w .count
+        → first-of (last-such right-left-aside (coming .passed)) (remembered rows (v .count) (v .any) (v .beneath) (v .aside) left)
+        ≡ last-such right-left-aside (whole .passed)
+        → Goes rows width whole (passed v key (bitOf s) l) coming
+    unfolding last-such
+    remembers v key l bits same-row same-count aside =
+        let less : pred (v .bits) ≡ m = rw bits in
+        record {
+          end = g .end;
+          bits = g .bits;
+          number = rw less (omega (arith, g .number, e));
+          above =
+              rw (less, same-row, same-count, last-bit (v .path) s, lt-ltb m width fits)
+              (sym (first-of-assoc (last-such anything (coming .passed)) (such here) _) ∙ g .above);
+          aside = aside;
+        }
+
+    here-aside : right-left-aside here ≡ (isSide left s && not (eqb (rows (w .row) .right) 0))
+    unfolding stepAt
+    here-aside = rw (there rows (w .count) m _ _ (rows (w .row) .right))
+
+    aside-with : (b : Bool) → right-left-aside here ≡ b
+        → first-of (last-such right-left-aside (coming .passed))
+        (first-of (if b then such here else no-such) (remembered rows (w .count) (w .any) (w .beneath) (w .aside) left))
+        ≡ last-such right-left-aside (whole .passed)
+    unfolding last-such
+    aside-with b h =
+        sym (first-of-assoc (last-such right-left-aside (coming .passed)) (if b then such here else no-such) _) ∙ rw h at (g .aside)
+
+  turned-goes : (m : ℕ) (s : Side) (coming : Way) → w .bits ≡ suc m → suc m ≤ width
+      → Goes rows width whole w (passing (stepAt rows (w .count) m (w .row) s) coming)
+      → Goes rows width whole (turned w (rows (w .row)) (toward s)) coming
+  unfolding turned
+  turned-goes m right coming e fits g =
+      remembers m right coming e fits g w _ _ e refl refl (aside-with m right coming e fits g false (here-aside m right coming e fits g))
+  turned-goes m left coming e fits g = go (eqb (rows (w .row) .right) 0) refl
+    where
+      aside-is : right-left-aside (stepAt rows (w .count) m (w .row) left) ≡ not (eqb (rows (w .row) .right) 0)
+      aside-is = here-aside m left coming e fits g
+
+      go : (b : Bool) → eqb (rows (w .row) .right) 0 ≡ b
+          → Goes rows width whole (passed (if b then w else remembering w) (rows (w .row) .entry .key) 0 (rows (w .row) .left)) coming
+      go true h = remembers m left coming e fits g w _ _ e refl refl (aside-with m left coming e fits g false (aside-is ∙ rw h))
+      go false h = remembers m left coming e fits g (remembering w) _ _ e refl refl (rw e (aside-with m left coming e fits g true (aside-is ∙ rw h)))
+
+-- what is to come after a row is passed
+module _ (rows : ℕ → Row) (f : Rule) (m key bit l : ℕ) where
+  comes : (v : Walk) (stage : Stage) → v .bits ≡ suc m
+      → to-come rows f (passed v key bit l) stage ≡ led rows f (v .count) m (v .path * 2 + bit) (suc key) l stage
+  comes v On e = rw e
+  comes v AtNone e = rw e
+  comes v AtRow e = rw e
+  comes v AtDamage e = rw e
+
+turned-comes : (rows : ℕ → Row) (f : Rule) (w : Walk) (m : ℕ) (s : Side) (r : Row) → w .bits ≡ suc m
+    → toCome rows f (turned w r (toward s))
+    ≡ led rows f (w .count) m (w .path * 2 + bitOf s) (suc (r .entry .key)) (link r s) (stageAt (w .count) (link r s))
+unfolding turned
+turned-comes rows f w m right r e = comes rows f m (r .entry .key) 1 (r .right) w (stageAt (w .count) (r .right)) e
+turned-comes rows f w m left r e = go (eqb (r .right) 0)
+  where
+    go : (b : Bool)
+        → toCome rows f (passed (if b then w else remembering w) (r .entry .key) 0 (r .left))
+        ≡ led rows f (w .count) m (w .path * 2 + 0) (suc (r .entry .key)) (r .left) (stageAt (w .count) (r .left))
+    go true = comes rows f m (r .entry .key) 0 (r .left) w (stageAt (w .count) (r .left)) e
+    go false = comes rows f m (r .entry .key) 0 (r .left) (remembering w) (stageAt (w .count) (r .left)) e
+
+-- what is to be shown of the walk v after a row that the walk w wanted
+pub record AfterRow (rows : ℕ → Row) (f : Rule) (width : ℕ) (whole : Way) (w v : Walk) : Type 0 where
+  pub goes : Goes rows width whole v (toCome rows f v)
+  pub placed : Placed rows v (v .stage)
+  pub memory : Memory width v
+  pub within : v .bits ≤ width
+  pub same-count : v .count ≡ w .count
+
+module _ (rows : ℕ → Row) (f : Rule) (width : ℕ) (whole : Way) (w : Walk) (used : w .row < w .count) (fits : w .bits ≤ width)
+    (mem : Memory width w) (g : Goes rows width whole w (way f (w .bits) (treeAt rows w))) where
+  abbrev here-row : Row
+  here-row = rows (w .row)
+
+  abbrev key : ℕ
+  key = here-row .entry .key
+
+  abbrev After : Walk → Type 0
+  After = AfterRow rows f width whole w
+
+  -- the row is judged by its number, which is in use, and by the rest
+  judged-is : (b : Bool) → holds w here-row ≡ b → judged (w .count) (w .bits) (w .path) (w .low) (w .row) here-row ≡ b
+  judged-is b h = rw (lt-ltb (w .row) (w .count) used) h
+
+  abbrev shows : holds w here-row ≡ true
+      → treeAt rows w ≡ row (w .row) (record { key = key }) (below rows (w .count) (w .bits) (w .row) left) (below rows (w .count) (w .bits) (w .row) right)
+  shows h = is-row rows (w .count) (w .bits) (w .path) (w .low) (w .row) (judged-is true h)
+
+  with-coming : (v : Walk) (coming : Way) → coming ≡ toCome rows f v → Goes rows width whole v coming → Goes rows width whole v (toCome rows f v)
+  with-coming v coming e h = subst (λ (c : Way). Goes rows width whole v c) e h
+
+  ends : (stage : Stage) → way f (w .bits) (treeAt rows w) ≡ toCome rows f (ended w stage key) → Placed rows (ended w stage key) stage → After (ended w stage key)
+  ends stage e p =
+      record {
+        goes = with-coming _ _ e (ended-goes rows width whole w stage key _ g);
+        placed = p;
+        memory = record { above-used = mem .above-used; aside-used = mem .aside-used };
+        within = fits;
+        same-count = refl;
+      }
+
+  link-placed : (v : Walk) (bit l : ℕ) → Placed rows (passed v key bit l) (stageAt (v .count) l)
+  link-placed v bit l = go (eqb l 0) (ltb l (v .count)) refl
+    where
+      go : (b c : Bool) → ltb l (v .count) ≡ c → Placed rows (passed v key bit l) (if b then AtNone else if c then On else AtDamage)
+      go true c h = tt
+      go false true h = ltb-true l (v .count) h
+      go false false h = tt
+
+  passed-after : (v : Walk) (bit l : ℕ) → v .bits ≡ w .bits → v .count ≡ w .count → v .row ≡ w .row
+      → (v .any ≡ true → (v .aside < w .count) × (v .beneath < width))
+      → Goes rows width whole (passed v key bit l) (toCome rows f (passed v key bit l)) → After (passed v key bit l)
+  passed-after v bit l bits same-count same-row aside h =
+      record {
+        goes = h;
+        placed = link-placed v bit l;
+        memory = record { above-used = λ less. rw (same-row, same-count) used; aside-used = λ any. rw same-count (aside any) };
+        within = rw bits (le-trans (pred-le (w .bits)) fits);
+        same-count = same-count;
+      }
+
+  turned-after : (s : Side) → (w .bits ≡ 0 → ⊥) → Goes rows width whole (turned w here-row (toward s)) (toCome rows f (turned w here-row (toward s)))
+      → After (turned w here-row (toward s))
+  unfolding turned
+  turned-after right some h = passed-after w 1 (here-row .right) refl refl refl (mem .aside-used) h
+  turned-after left some h = go (eqb (here-row .right) 0) h
+    where
+      go : (b : Bool)
+          → (let v : Walk = passed (if b then w else remembering w) key 0 (here-row .left) in Goes rows width whole v (toCome rows f v) → After v)
+      go true h = passed-after w 0 (here-row .left) refl refl refl (mem .aside-used) h
+      go false h =
+          let fewer : pred (w .bits) < width = omega (arith, pos-of-ne-zero some) in
+          passed-after (remembering w) 0 (here-row .left) refl refl refl (λ any. (used, fewer)) h
+
+  -- what the rule says at the row, with m bits left below it
+  abbrev Says : ℕ → Turn → Type 0
+  Says m t = f m (record { key = key }) (below rows (w .count) (suc m) (w .row) left) (below rows (w .count) (suc m) (w .row) right) ≡ turnOf t
+
+  passes-by : (m : ℕ) (s : Side) → w .bits ≡ suc m → holds w here-row ≡ true → Says m (toward s) → After (turned w here-row (toward s))
+  passes-by m s e h says =
+      let path-is : key / 2 ^ suc m ≡ w .path = rw (← e) (path-in-key (w .count) (w .bits) (w .path) (w .low) (w .row) here-row (judged-is true h)) in
+      let on : way f (w .bits) (treeAt rows w) ≡ passing (stepAt rows (w .count) m (w .row) s) (onward rows f (w .count) m (w .row) s)
+      = rw (shows h, e) (row-passed rows f (w .count) m (w .row) s (turn-says s says)) in
+      turned-after s (λ none-left. suc-ne-zero m (sym e ∙ none-left))
+      (with-coming _ _
+      (ap (λ (path : ℕ). led rows f (w .count) m (path * 2 + bitOf s) (suc key) (link here-row s) (stageAt (w .count) (link here-row s))) path-is
+      ∙ sym (turned-comes rows f w m s here-row e))
+      (turned-goes rows width whole w m s _ e (rw e at fits) (subst (λ (c : Way). Goes rows width whole w c) on g)))
+    where
+      turn-says : (s : Side) → Says m (toward s)
+          → f m (record { key = key }) (below rows (w .count) (suc m) (w .row) left) (below rows (w .count) (suc m) (w .row) right) ≡ to s
+      turn-says left h = h
+      turn-says right h = h
+
+  by-turn : (m : ℕ) (t : Turn) → w .bits ≡ suc m → holds w here-row ≡ true → Says m t → After (turned w here-row t)
+  unfolding turned
+  by-turn m Stop e h says = ends AtRow (rw (shows h, e) (stops-at f m (w .row) _ _ _ says)) (used, h, refl)
+  by-turn m Left e h says = passes-by m left e h says
+  by-turn m Right e h says = passes-by m right e h says
+
+  -- the row that the walk wants takes it on along the whole way
+  pub meets : (t : Turn) → ((m : ℕ) → w .bits ≡ suc m → Says m t) → After (met w here-row t)
+  unfolding met
+  meets t says = by-row (holds w here-row) refl
+    where
+      by-bits : (b : Bool) → eqb (w .bits) 0 ≡ b → holds w here-row ≡ true → After (if b then ended w AtRow key else turned w here-row t)
+      by-bits true zero-left h = ends AtRow (at-bottom f (treeAt rows w) (w .bits) (eqb-true (w .bits) 0 zero-left)) (used, h, refl)
+      by-bits false some h =
+          let e : w .bits ≡ suc (pred (w .bits)) = omega (arith, pos-of-ne-zero (eqb-false (w .bits) 0 some)) in
+          by-turn (pred (w .bits)) t e h (says (pred (w .bits)) e)
+
+      by-row : (b : Bool) → holds w here-row ≡ b → After (if not b then ended w AtDamage key else if eqb (w .bits) 0 then ended w AtRow key else turned w here-row t)
+      by-row false h = ends AtDamage (rw (is-damaged rows (w .count) (w .bits) (w .path) (w .low) (w .row) (judged-is false h)) (at-damage f (w .bits))) tt
+      by-row true h = by-bits (eqb (w .bits) 0) refl h
+
+pub is-on : (stage : Stage) → isOn stage ≡ true → stage ≡ On
+is-on On h = refl
+is-on AtNone h = sym (cc)
+is-on AtRow h = sym (cc)
+is-on AtDamage h = sym (cc)
+
+module _ (rows : ℕ → Row) (f : Rule) (width count : ℕ) (tree : Tree) (w : Walk) (on : isOn (w .stage) ≡ true) (k : Walking rows f width count tree w) where
+  -- the row that a walk wants is in use
+  pub in-use : w .row < count
+  in-use = rw (← k .same-count) (subst (Placed rows w) (is-on (w .stage) on) (k .placed))
+
+  -- a walk that is on its way is so after the row that it wants, if it makes the turn that its rule says
+  pub keeps : (t : Turn)
+      → ((m : ℕ) → w .bits ≡ suc m
+      → f m (record { key = rows (w .row) .entry .key }) (below rows count (suc m) (w .row) left) (below rows count (suc m) (w .row) right) ≡ turnOf t)
+      → Walking rows f width count tree (met w (rows (w .row)) t)
+  keeps t says =
+      let stage : w .stage ≡ On = is-on (w .stage) on in
+      let a : AfterRow rows f width (way f width tree) w (met w (rows (w .row)) t)
+      = meets rows f width (way f width tree) w (subst (Placed rows w) stage (k .placed)) (k .fits) (k .memory)
+      (subst (λ (s : Stage). Goes rows width (way f width tree) w (to-come rows f w s)) stage (k .goes)) t
+      (λ m e. rw (k .same-count) (says m e)) in
+      record { goes = a .goes; placed = a .placed; memory = a .memory; fits = a .within; same-count = a .same-count ∙ k .same-count }
+
+-- a walk that has not moved yet is on its way, if all of the way is still to come
+module _ (rows : ℕ → Row) (f : Rule) (tree : Tree) (w : Walk) (fresh : w .any ≡ false) (all : toCome rows f w ≡ way f (w .bits) tree)
+    (p : Placed rows w (w .stage)) where
+  pub begins : Walking rows f (w .bits) (w .count) tree w
+  begins =
+      record {
+        goes =
+            record {
+              end = ap (λ (v : Way). v .end) all;
+              bits = ap (λ (v : Way). v .bits) all;
+              number = rw (all, sub-self (w .bits)) (add-zero _);
+              above = rw (all, le-ltb (w .bits) (w .bits) (le-refl (w .bits))) (first-of-no-such _);
+              aside = rw (all, fresh) (first-of-no-such _);
+            };
+        placed = p;
+        memory =
+            record {
+              above-used = λ less. absurd (lt-irrefl (w .bits) less);
+              aside-used = λ any. absurd (true≢false (sym any ∙ fresh));
+            };
+        fits = le-refl (w .bits);
+        same-count = refl;
+      }
+
+-- at the root
+pub begins-root : (h : Header) (table : List ℕ) (f : Rule) → Walking (rowAt table) f (h .width) (h .count) (shown h table) (started h)
+unfolding shown
+begins-root h table f = begins (rowAt table) f (shown h table) (started h) refl (all (eqb (h .count) 0)) (placed (eqb (h .count) 0) refl)
+  where
+    all : (b : Bool)
+        → to-come (rowAt table) f (started h) (if b then AtNone else On)
+        ≡ way f (h .width) (if b then none else unfolded (rowAt table) (h .count) (h .width) 0 0 0)
+    all true = sym (at-none f (h .width))
+    all false = refl
+
+    placed : (b : Bool) → eqb (h .count) 0 ≡ b → Placed (rowAt table) (started h) (if b then AtNone else On)
+    placed true e = tt
+    placed false e = pos-of-ne-zero (eqb-false (h .count) 0 e)
+
+-- the number that falls: the bits left, and one more while the walk is on its way
+abbrev pub still : Walk → ℕ
+still w = w .bits + (if isOn (w .stage) then 1 else 0)
+
+pub falls : (w : Walk) (r : Row) (t : Turn) → isOn (w .stage) ≡ true → still (met w r t) < still w
+unfolding met turned
+falls w r t on = rw on (by-row (holds w r))
+  where
+    one : (b : Bool) → (if b then 1 else 0) ≤ 1
+    one true = omega arith
+    one false = omega arith
+
+    fewer : (bits : ℕ) (b : Bool) → bits ≡ w .bits → (w .bits ≡ 0 → ⊥) → pred bits + (if b then 1 else 0) < w .bits + 1
+    fewer bits b e some = omega (arith, one b)
+
+    by-link : (v : Walk) (bit l : ℕ) → v .bits ≡ w .bits → (w .bits ≡ 0 → ⊥) → still (passed v (r .entry .key) bit l) < w .bits + 1
+    by-link v bit l e some = fewer (v .bits) (isOn (stageAt (v .count) l)) e some
+
+    by-turn-falls : (t : Turn) → (w .bits ≡ 0 → ⊥) → still (turned w r t) < w .bits + 1
+    by-turn-falls Stop some = omega arith
+    by-turn-falls Right some = by-link w 1 (r .right) refl some
+    by-turn-falls Left some = go (eqb (r .right) 0)
+      where
+        go : (b : Bool) → still (passed (if b then w else remembering w) (r .entry .key) 0 (r .left)) < w .bits + 1
+        go true = by-link w 0 (r .left) refl some
+        go false = by-link (remembering w) 0 (r .left) refl some
+
+    by-bits : (b : Bool) → eqb (w .bits) 0 ≡ b → still (if b then ended w AtRow (r .entry .key) else turned w r t) < w .bits + 1
+    by-bits true e = omega arith
+    by-bits false e = by-turn-falls t (eqb-false (w .bits) 0 e)
+
+    by-row : (b : Bool)
+        → still (if not b then ended w AtDamage (r .entry .key) else if eqb (w .bits) 0 then ended w AtRow (r .entry .key) else turned w r t) < w .bits + 1
+    by-row false = omega arith
+    by-row true = by-bits (eqb (w .bits) 0) refl
+
+-- a walk that passed no row is where it was
+record Unmoved (w v : Walk) : Type 0 where
+  no-more : v .bits ≤ w .bits
+  same : v .bits ≡ w .bits → (v .above ≡ w .above) × (v .path ≡ w .path)
+
+unmoved-by : (w : Walk) (r : Row) (t : Turn) → Unmoved w (met w r t)
+unfolding met turned
+unmoved-by w r t = by-row (holds w r)
+  where
+    one-less : (bits : ℕ) → bits ≡ w .bits → (w .bits ≡ 0 → ⊥) → pred bits ≡ w .bits → ⊥
+    one-less bits e some h = omega (arith, pos-of-ne-zero some)
+
+    by-link : (v : Walk) (bit l : ℕ) → v .bits ≡ w .bits → (w .bits ≡ 0 → ⊥) → Unmoved w (passed v (r .entry .key) bit l)
+    by-link v bit l e some =
+        record {
+          no-more = rw e (pred-le (w .bits));
+          same = λ h. absurd (one-less (v .bits) e some h);
+        }
+
+    by-turn-unmoved : (t : Turn) → (w .bits ≡ 0 → ⊥) → Unmoved w (turned w r t)
+    by-turn-unmoved Stop some = record { no-more = le-refl (w .bits); same = λ h. (refl, refl) }
+    by-turn-unmoved Right some = by-link w 1 (r .right) refl some
+    by-turn-unmoved Left some = go (eqb (r .right) 0)
+      where
+        go : (b : Bool) → Unmoved w (passed (if b then w else remembering w) (r .entry .key) 0 (r .left))
+        go true = by-link w 0 (r .left) refl some
+        go false = by-link (remembering w) 0 (r .left) refl some
+
+    by-bits : (b : Bool) → eqb (w .bits) 0 ≡ b → Unmoved w (if b then ended w AtRow (r .entry .key) else turned w r t)
+    by-bits true e = record { no-more = le-refl (w .bits); same = λ h. (refl, refl) }
+    by-bits false e = by-turn-unmoved t (eqb-false (w .bits) 0 e)
+
+    by-row : (b : Bool)
+        → Unmoved w (if not b then ended w AtDamage (r .entry .key) else if eqb (w .bits) 0 then ended w AtRow (r .entry .key) else turned w r t)
+    by-row false = record { no-more = le-refl (w .bits); same = λ h. (refl, refl) }
+    by-row true = by-bits (eqb (w .bits) 0) refl
+
+-- so along a whole walk: s is where it began
+pub unmoved : (s w : Walk) (r : Row) (t : Turn) → w .bits ≤ s .bits
+    → (w .bits ≡ s .bits → (w .above ≡ s .above) × (w .path ≡ s .path))
+    → met w r t .bits ≡ s .bits → (met w r t .above ≡ s .above) × (met w r t .path ≡ s .path)
+unmoved s w r t within so-far e =
+    let u : Unmoved w (met w r t) = unmoved-by w r t in
+    let none-passed : w .bits ≡ s .bits = omega (arith, u .no-more) in
+    let now = u .same (e ∙ sym none-passed) in
+    let before = so-far none-passed in
+    (now .0 ∙ before .0, now .1 ∙ before .1)
+
+-- a walk that may begin in a table is on its way from the tree at which it stands
+pub begins-there : (table : List ℕ) (f : Rule) (w : Walk) → Begun table w
+    → Walking (rowAt table) f (w .bits) (w .count) (standing (rowAt table) w (w .stage)) w
+begins-there table f w b = begins (rowAt table) f (standing (rowAt table) w (w .stage)) w (b .fresh) (all (w .stage) (b .not-ended)) (b .placed)
+  where
+    all : (stage : Stage) → (stage ≡ AtRow → ⊥)
+        → to-come (rowAt table) f w stage ≡ way f (w .bits) (standing (rowAt table) w stage)
+    all On going = refl
+    all AtNone going = sym (at-none f (w .bits))
+    all AtRow going = absurd (going refl)
+    all AtDamage going = sym (at-damage f (w .bits))
+
+-- a walk that stops at the row it meets has ended
+pub stop-ends : (w : Walk) (r : Row) → isOn (met w r Stop .stage) ≡ false
+unfolding met turned
+stop-ends w r = go (holds w r) (eqb (w .bits) 0)
+  where
+    go : (a b : Bool)
+        → isOn ((if not a then ended w AtDamage (r .entry .key) else if b then ended w AtRow (r .entry .key) else ended w AtRow (r .entry .key)) .stage) ≡ false
+    go false b = refl
+    go true true = refl
+    go true false = refl
+
+-- the root is a place where a walk may begin
+pub root-begun : (h : Header) (table : List ℕ) → h .width ≤ 32 → h .count ≤ capacity table → Begun table (started h)
+root-begun h table few room =
+    record {
+      few-bits = few;
+      has-room = room;
+      placed = begins-root h table (λ m e l r. stop) .placed;
+      fresh = refl;
+      not-ended = root-open (eqb (h .count) 0);
+    }
+  where
+    root-open : (b : Bool) → (if b then AtNone else On) ≡ AtRow → ⊥
+    root-open true e = let z : _≡_ {A = ℕ} 0 1 = cc in omega arith
+    root-open false e = let z : _≡_ {A = ℕ} 0 1 = cc in omega arith
+
+-- what stands there is what the table shows
+pub root-standing : (h : Header) (table : List ℕ) → standing (rowAt table) (started h) (started h .stage) ≡ shown h table
+unfolding shown
+root-standing h table = go (eqb (h .count) 0)
+  where
+    go : (b : Bool) → standing (rowAt table) (started h) (if b then AtNone else On) ≡ (if b then none else unfolded (rowAt table) (h .count) (h .width) 0 0 0)
+    go true = refl
+    go false = refl
+
+-- what stands at a link is what it shows
+standing-at : (rows : ℕ → Row) (count m path low l : ℕ)
+    → standing rows (startedAt count l m path low) (stageAt count l) ≡ linked (unfolded rows count m path low) l
+standing-at rows count m path low zero = refl
+standing-at rows count m path low (suc l) =
+    ap (standing rows (startedAt count (suc l) m path low)) linked-stage ∙ go (ltb (suc l) count) refl
+  where
+    linked-stage : stageAt count (suc l) ≡ (if ltb (suc l) count then On else AtDamage)
+    linked-stage = rw (ne-eqb (suc l) 0 (suc-ne-zero l))
+
+    go : (b : Bool) → ltb (suc l) count ≡ b
+        → standing rows (startedAt count (suc l) m path low) (if b then On else AtDamage) ≡ unfolded rows count m path low (suc l)
+    go true h = refl
+    go false h = sym (is-damaged rows count m path low (suc l) (rw h))
+
+-- so is the part of a row on a side, and what stands there is what the row's link shows
+module _ (table : List ℕ) (count m i : ℕ) (s : Side) where
+  abbrev start : Walk
+  start = partStart count (rowAt table i) s m
+
+  pub part-begun : m ≤ 32 → count ≤ capacity table → Begun table start
+  part-begun few room =
+      record {
+        few-bits = few;
+        has-room = room;
+        placed = placed (eqb l 0) (ltb l count) refl;
+        fresh = refl;
+        not-ended = part-open (eqb l 0) (ltb l count);
+      }
+    where
+      l : ℕ
+      l = link (rowAt table i) s
+
+      placed : (b c : Bool) → ltb (link (rowAt table i) s) count ≡ c → Placed (rowAt table) start (if b then AtNone else if c then On else AtDamage)
+      placed true c h = tt
+      placed false true h = ltb-true _ count h
+      placed false false h = tt
+
+      part-open : (b c : Bool) → (if b then AtNone else if c then On else AtDamage) ≡ AtRow → ⊥
+      part-open true c e = let z : _≡_ {A = ℕ} 0 1 = cc in omega arith
+      part-open false true e = let z : _≡_ {A = ℕ} 0 1 = cc in omega arith
+      part-open false false e = let z : _≡_ {A = ℕ} 0 1 = cc in omega arith
+
+  pub part-standing : standing (rowAt table) start (start .stage) ≡ below (rowAt table) count (suc m) i s
+  part-standing = standing-at (rowAt table) count m _ _ (link (rowAt table i) s)

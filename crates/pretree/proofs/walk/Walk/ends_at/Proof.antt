@@ -1,0 +1,37 @@
+-- By the stage.
+use mathlib.Core.Path.{_≡_}
+use Rattle.pretree.specs.declared.walk.Stage.the-variants.{AtRow}
+use borrow.Author.Needs.{needs}
+use Rattle.pretree.proofs.walk.Walk.ends_at.Statement.{statement}
+use Rattle.pretree.proofs.walk.Walk.ends_at.Tie as tie
+
+enum-told : tie.Need-enum-told
+enum-told c = search needs
+
+enum-told-2 : tie.Need-enum-told-2
+enum-told-2 c = search needs
+
+enum-told-3 : tie.Need-enum-told-3
+enum-told-3 c = search needs
+
+enum-told-4 : tie.Need-enum-told-4
+enum-told-4 c = search needs
+
+returns : tie.Need-returns
+returns c =
+    let at : c .before .before .before .args .self .stage ≡ AtRow = search needs in
+    simp (at)
+
+returns-2 : tie.Need-returns-2
+returns-2 c = search needs
+
+returns-3 : tie.Need-returns-3
+returns-3 c = search needs
+
+returns-4 : tie.Need-returns-4
+returns-4 c = search needs
+
+pub ends-at-spec : {M : Type 1} → statement M
+ends-at-spec =
+    tie.close
+    (tie.spec enum-told enum-told-2 enum-told-3 enum-told-4 returns returns-2 returns-3 returns-4)

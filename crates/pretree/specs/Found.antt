@@ -1,0 +1,73 @@
+-- What the reading calls answer where their walks ended: the contracts of the small functions that turn a walk's end into a reply.
+use Prim.Native.Nat.{ℕ, suc, _+_, _%_, _≤_, _<_}
+use mathlib.Core.Path.{_≡_}
+use mathlib.Core.Bool.{Bool, true, false, not, _&&_}
+use mathlib.Core.List.{List}
+use lib.Dec.{ltb, eqb}
+use Rattle.ordered.specs.Such.{if_then_else_}
+use Rattle.ordered.specs.Word.{left, right, sideOf, isSide}
+use Rattle.ordered.specs.Way.{Way, way, rows, broken, staying, down}
+use Rattle.ordered.specs.Reading.{keyAt}
+use Rattle.pretree.specs.declared.Header.{Header}
+use Rattle.pretree.specs.declared.Answer.the-variants.{Done, Word, Damage, NoSuchWord}
+use Rattle.pretree.specs.declared.Reply.{Reply}
+use Rattle.pretree.specs.declared.Row.{Row}
+use Rattle.pretree.specs.declared.walk.Stage.{Stage}
+use Rattle.pretree.specs.declared.walk.Stage.the-variants.{On, AtNone, AtRow, AtDamage}
+use Rattle.pretree.specs.Reply.{wrong-header, refused, answered}
+use Rattle.pretree.specs.Find.{saying}
+use Rattle.pretree.specs.Walk.{below}
+
+-- `has` of k, at a row with that key, after so many rows
+abbrev pub found-by : Header → ℕ → ℕ → ℕ → Stage → Reply
+found-by h k key n On = answered h NoSuchWord n
+found-by h k key n AtNone = answered h NoSuchWord n
+found-by h k key n AtRow = if eqb k key then answered h Done n else answered h NoSuchWord n
+found-by h k key n AtDamage = refused h Damage
+
+-- the word at which a walk ended, after so many rows
+abbrev pub word-by : Header → ℕ → ℕ → Stage → Reply
+word-by h key n On = answered h NoSuchWord n
+word-by h key n AtNone = answered h NoSuchWord n
+word-by h key n AtRow = answered h (Word key) n
+word-by h key n AtDamage = refused h Damage
+
+-- what is known where a second way begins, after so many rows
+pub record Asked (h : Header) (table : List ℕ) (n : ℕ) : Type 0 where
+  pub fine : wrong-header h table ≡ false
+  pub few : n ≤ 33
+
+-- a second way, whose end is the answer, after n rows
+abbrev pub then-by : Header → ℕ → Way → Reply
+then-by h n w =
+    if broken w then refused h Damage
+    else answered h (saying Word (keyAt (w .end))) (n + rows w)
+
+-- the right child of the row i that the walk remembered, with m bits left below it
+abbrev pub aside-from : Header → (ℕ → Row) → ℕ → Bool → ℕ → ℕ → Reply
+aside-from h rows n false m i = answered h NoSuchWord n
+aside-from h rows n true m i = then-by h n (way staying m (below rows (h .count) (suc m) i right))
+
+-- `next` of k, at a row with that key, after n rows
+abbrev pub next-from : Header → (ℕ → Row) → ℕ → Stage → ℕ → ℕ → Bool → ℕ → ℕ → Reply
+next-from h rows k On key n any m i = aside-from h rows n any m i
+next-from h rows k AtNone key n any m i = aside-from h rows n any m i
+next-from h rows k AtRow key n any m i = if ltb k key then answered h (Word key) n else aside-from h rows n any m i
+next-from h rows k AtDamage key n any m i = refused h Damage
+
+-- the row above, with m bits left below it, to which the way turned right or not; and the greatest word of its left part, if it did and there is one
+abbrev pub above-by : Header → (ℕ → Row) → ℕ → ℕ → ℕ → Bool → Reply
+above-by h rows n m i true = then-by h n (way (down right) m (below rows (h .count) (suc m) i left))
+above-by h rows n m i false = answered h (Word (rows i .entry .key)) n
+
+abbrev pub above-from : Header → (ℕ → Row) → ℕ → ℕ → ℕ → ℕ → Reply
+above-from h rows n m path i =
+    if ltb m (h .width) then above-by h rows n m i (isSide right (sideOf (path % 2)) && not (eqb (rows i .left) 0))
+    else answered h NoSuchWord n
+
+-- `prev` of k, at a row with that key, after n rows
+abbrev pub prev-from : Header → (ℕ → Row) → ℕ → Stage → ℕ → ℕ → ℕ → ℕ → ℕ → Reply
+prev-from h rows k On key n m path i = above-from h rows n m path i
+prev-from h rows k AtNone key n m path i = above-from h rows n m path i
+prev-from h rows k AtRow key n m path i = if ltb key k then answered h (Word key) n else above-from h rows n m path i
+prev-from h rows k AtDamage key n m path i = refused h Damage

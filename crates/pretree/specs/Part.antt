@@ -1,0 +1,57 @@
+-- The parts of rows, as `src/whole.rt` recurses on them: where a part stands, what counting its rows leaves, and when it can be listed.
+use Prim.Native.Nat.{ℕ, suc, pred, _+_, _*_, _-_, _/_, _^_, _≤_, _<_}
+use mathlib.Core.Path.{_≡_}
+use mathlib.Core.Bool.{Bool, true, _&&_}
+use mathlib.Core.List.{List}
+use lib.Dec.{leb, eqb}
+use lib.ListN.{length}
+use Rattle.ordered.specs.Such.{if_then_else_}
+use Rattle.ordered.specs.Word.{Side, bitOf}
+use Rattle.ordered.specs.Tree.{Tree, intact, size}
+use Rattle.pretree.specs.declared.Row.{Row}
+use Rattle.pretree.specs.declared.whole.Place.{Place}
+use Rattle.pretree.specs.declared.whole.Rest.{Rest}
+use Rattle.pretree.specs.declared.whole.Rest.the-variants.{Rows, Damaged}
+use Rattle.pretree.specs.Table.{capacity, link}
+use Rattle.pretree.specs.Unfold.{ends-there, linked, unfolded}
+
+abbrev pub root : ℕ → Place
+root width = record { row = 0; bits = width; path = 0; low = 0 }
+
+-- where the link on side s of the row r leads
+abbrev pub below : Place → Row → Side → Place
+below p r s = record { row = link r s; bits = pred (p .bits); path = p .path * 2 + bitOf s; low = suc (r .entry .key) }
+
+-- a bit is left that decides, the path is one of 32 bits, and the side is 0 or 1
+pub record Turns (p : Place) (side : ℕ) : Type 0 where
+  pub inner : 0 < p .bits
+  pub short : p .path < 2 ^ 32
+  pub either : side < 2
+
+-- `judged` but for the row's number
+abbrev pub holds : Place → Row → Bool
+holds p r = leb (p .low) (r .entry .key) && (eqb (r .entry .key / 2 ^ p .bits) (p .path) && ends-there (p .bits) r)
+
+-- the part of the row at a place
+abbrev pub rowPart : (ℕ → Row) → ℕ → Place → Tree
+rowPart rows n p = unfolded rows n (p .bits) (p .path) (p .low) (p .row)
+
+-- the part to which a link there leads
+abbrev pub linkPart : (ℕ → Row) → ℕ → Place → Tree
+linkPart rows n p = linked (unfolded rows n (p .bits) (p .path) (p .low)) (p .row)
+
+-- the part on side s of the row r
+abbrev pub sidePart : (ℕ → Row) → ℕ → Place → Row → Side → Tree
+sidePart rows n p r s = linkPart rows n (below p r s)
+
+-- where `rest` rows may still be met: how many after the rows of a part, if it has no damage and no more rows than that
+unfoldable pub counted : Tree → ℕ → Rest
+counted t rest =
+    if intact t && leb (size t) rest then Rows (rest - size t)
+    else Damaged
+
+-- a part of a table that has room in the buffer from `next` on
+pub record Listable (table : List ℕ) (count : ℕ) (t : Tree) (buffer : List ℕ) (next : ℕ) : Type 0 where
+  pub in-table : count ≤ capacity table
+  pub whole : intact t ≡ true
+  pub room : next + size t ≤ length buffer

@@ -1,0 +1,55 @@
+-- A walk that goes on from the row at which it ended, by another rule.
+use Prim.Native.Nat.{ℕ, _≤_}
+use mathlib.Core.Path.{_≡_}
+use mathlib.Core.Bool.{Bool, true, false}
+use lib.Dec.{eqb}
+use Rattle.ordered.specs.Way.{Way, Rule}
+use Rattle.pretree.specs.declared.Row.{Row}
+use Rattle.pretree.specs.declared.walk.Stage.{Stage}
+use Rattle.pretree.specs.declared.walk.Stage.the-variants.{On, AtNone, AtRow, AtDamage}
+use Rattle.pretree.specs.declared.walk.Walk.{Walk}
+use Rattle.pretree.specs.Walk.{isOn, ended, toCome, Goes, Placed, Memory}
+
+-- it ended at damage
+abbrev pub isDamage : Stage → Bool
+isDamage On = false
+isDamage AtNone = false
+isDamage AtRow = false
+isDamage AtDamage = true
+
+-- it ended at the row of the word k, where the last key that it read is that one
+abbrev pub endsAt : ℕ → ℕ → Stage → Bool
+endsAt k key On = false
+endsAt k key AtNone = false
+endsAt k key AtRow = eqb k key
+endsAt k key AtDamage = false
+
+abbrev pub again : Stage → Stage
+again On = On
+again AtNone = AtNone
+again AtRow = On
+again AtDamage = AtDamage
+
+-- where it ended at a row, it wants that row again
+abbrev pub resumed : Walk → Walk
+resumed w = ended w (again (w .stage)) (w .key)
+
+-- the walk w is on the whole way, by the rule f from here on, whatever its rule was before
+pub record Going (rows : ℕ → Row) (f : Rule) (width count : ℕ) (whole : Way) (w : Walk) : Type 0 where
+  pub goes : Goes rows width whole w (toCome rows f w)
+  pub placed : Placed rows w (w .stage)
+  pub memory : Memory width w
+  pub fits : w .bits ≤ width
+  pub same-count : w .count ≡ count
+
+-- there is such a way, of 32 bits at most
+pub record GoingSome (rows : ℕ → Row) (f : Rule) (w : Walk) : Type 0 where
+  pub width : ℕ
+  pub whole : Way
+  pub at-most-32 : width ≤ 32
+  pub going : Going rows f width (w .count) whole w
+
+-- the walk p has gone on from the walk w to the end: on whatever way w was, p has gone it
+pub record GoneOn (rows : ℕ → Row) (f : Rule) (w p : Walk) : Type 0 where
+  pub gone : (width : ℕ) (whole : Way) → Going rows f width (w .count) whole w → Going rows f width (w .count) whole p
+  pub ended : isOn (p .stage) ≡ false

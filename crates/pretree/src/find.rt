@@ -1,0 +1,79 @@
+// `has`: whether a word is there.
+
+use crate::Answer;
+use crate::Header;
+use crate::Reply;
+use crate::seek::way_of;
+use crate::walk::Stage;
+ghost use mathlib.Core.Path.{_≡_};
+ghost use mathlib.Core.Bool.{false};
+ghost use Rattle.pretree.specs.Reply.{wrong-header, too-wide, refused, answered};
+ghost use Rattle.pretree.specs.Find.{hasReply};
+ghost use Rattle.pretree.specs.Found.{found-by};
+
+impl Header {
+    // "1 to 6 and 9 are refusals: counts 0, header, table and buffer untouched."
+    pub fn refused(self, answer: Answer) -> Reply
+        ensures { λ r. ⌜ r ≡ refused self answer ⌝ }
+    {
+        Reply {
+            header: self,
+            answer,
+            rows: 0,
+            moved: 0,
+        }
+    }
+
+    // An answer that leaves the set as it was.
+    pub fn answered(self, answer: Answer, rows: u32) -> Reply
+        ensures { λ r. ⌜ r ≡ answered self answer rows ⌝ }
+    {
+        Reply {
+            header: self,
+            answer,
+            rows,
+            moved: 0,
+        }
+    }
+
+    // "found if the way of k ends at k"
+    pub fn has(self, table: &[u32], word: u32) -> Reply
+        ensures { λ r. ⌜ r ≡ hasReply self (now (table .entry)) word ⌝ }
+    {
+        if self.is_wrong(table) {
+            return self.refused(Answer::WrongHeader);
+        }
+        if self.is_exceeded_by(word) {
+            return self.refused(Answer::WordTooWide);
+        }
+        self.found(table, word)
+    }
+
+    fn found(self, table: &[u32], word: u32) -> Reply
+        requires header { ⌜ wrong-header self (now table) ≡ false ⌝ }
+        requires width { ⌜ too-wide self word ≡ false ⌝ }
+        ensures { λ r. ⌜ r ≡ hasReply self (now (table .entry)) word ⌝ }
+    {
+        let w = way_of(table, self, word, word as u64);
+        let rows = w.rows(self.width);
+        let stage = w.stage;
+        self.found_at(word, stage, w.key, rows)
+    }
+
+    fn found_at(self, word: u32, stage: Stage, key: u32, rows: u32) -> Reply
+        ensures { λ r. ⌜ r ≡ found-by self word key rows stage ⌝ }
+    {
+        match stage {
+            Stage::AtDamage => self.refused(Answer::Damage),
+            Stage::AtRow => {
+                if word == key {
+                    self.answered(Answer::Done, rows)
+                } else {
+                    self.answered(Answer::NoSuchWord, rows)
+                }
+            }
+            Stage::AtNone => self.answered(Answer::NoSuchWord, rows),
+            Stage::On => self.answered(Answer::NoSuchWord, rows),
+        }
+    }
+}

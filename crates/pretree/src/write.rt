@@ -1,0 +1,49 @@
+// The writes to a lent table: an entry, a link or a whole row. "Row i begins at table word 3i."
+
+use crate::Entry;
+use crate::Header;
+use crate::Row;
+ghost use mathlib.Core.Path.{_≡_};
+ghost use mathlib.Core.Bool.{true};
+ghost use Prim.Native.Nat.{_<_};
+ghost use Rattle.ordered.specs.Word.{sideOf};
+ghost use Rattle.pretree.specs.Table.{capacity, withKey, withLink, withRow, hooked};
+
+// Row i takes an entry, all of it at once.
+pub fn put_entry(table: &mut [u32], i: u32, entry: Entry)
+    requires { ⌜ i < capacity (now table) ⌝ }
+    ensures { λ _. ⌜ now (table .exit) ≡ withKey i (entry .key) (now (table .entry)) ⌝ }
+{
+    let at = Header::ROW * (i as usize);
+    table[at] = entry.key;
+}
+
+// The link of row i on one side: 0 is left, 1 is right.
+pub fn put_link(table: &mut [u32], i: u32, side: u64, link: u32)
+    requires { ⌜ (i < capacity (now table)) × (side < 2) ⌝ }
+    ensures { λ _. ⌜ now (table .exit) ≡ withLink i (sideOf side) link (now (table .entry)) ⌝ }
+{
+    let at = Header::ROW * (i as usize) + 1 + (side as usize);
+    table[at] = link;
+}
+
+// The same of the row where a way passed last, if it passed any.
+pub fn hook(table: &mut [u32], any: bool, i: u32, side: u64, link: u32)
+    requires row { ⌜ (any ≡ true → i < capacity (now table)) ⌝ }
+    requires side { ⌜ side < 2 ⌝ }
+    ensures { λ _. ⌜ now (table .exit) ≡ hooked any i (sideOf side) link (now (table .entry)) ⌝ }
+{
+    if any {
+        put_link(table, i, side, link);
+    }
+}
+
+pub fn put_row(table: &mut [u32], i: u32, row: Row)
+    requires { ⌜ i < capacity (now table) ⌝ }
+    ensures { λ _. ⌜ now (table .exit) ≡ withRow i row (now (table .entry)) ⌝ }
+{
+    let at = Header::ROW * (i as usize);
+    table[at] = row.entry.key;
+    table[at + 1] = row.left;
+    table[at + 2] = row.right;
+}

@@ -1,0 +1,381 @@
+"""Runs document 01's examples on the model and compares pretree.py with dictionary.py.
+
+    python3 check.py        prints counts and 'ok'; exit status 1 at a difference
+"""
+import sys
+
+import damage
+import dictionary
+import lines
+import pretree
+from damage import Draw
+from dictionary import Dictionary
+from pretree import Reply
+
+counts = {}
+
+
+def same(kind, name, got, wanted):
+    counts[kind] = counts.get(kind, 0) + 1
+    if got != wanted:
+        print(f"{kind}: {name}: got {got}, wanted {wanted}")
+        sys.exit(1)
+
+
+# ---- document 01's examples ----
+
+EXAMPLE_IN = """new 4
+add 8
+add 4
+add 11
+add 15
+prev 15
+next 11
+add 4
+del 8
+has 8
+has 16
+list
+"""
+EXAMPLE_OUT = """1 0 - 0 0
+2 0 - 0 0
+3 0 - 1 0
+4 0 - 2 0
+5 0 - 2 0
+6 0 11 4 0
+7 0 15 4 0
+8 7 - 1 0
+9 0 - 3 3
+10 8 - 2 0
+11 3 - 0 0
+12 0 - 3 0
+key 4
+key 11
+key 15
+"""
+
+
+def tabs(text):
+    return text.replace(" ", "\t").encode("ascii")
+
+
+def made(w, words, rows):
+    """A table of so many rows with these words, added in this order."""
+    table = [7] * (3 * rows)
+    header = pretree.new(table, (0, 0), w).header
+    for k in words:
+        reply = pretree.add(table, header, k)
+        assert reply.answer == 0
+        header = reply.header
+    return table, header
+
+
+def shape(table, row=0):
+    """The tree as (key, left, right), () for none."""
+    key, *links = table[3 * row:3 * row + 3]
+    return (key, *[shape(table, link) if link else () for link in links])
+
+
+CALLS = {"new": pretree.new, "add": pretree.add, "del": pretree.del_, "has": pretree.has,
+         "next": pretree.next_, "prev": pretree.prev, "gap": pretree.gap,
+         "first": pretree.first, "last": pretree.last, "audit": pretree.audit,
+         "list": pretree.list_}
+
+
+def ask(table, header, call, *given):
+    """The reply as text: answer, key or -, rows, moving count."""
+    reply = CALLS[call](table, header, *given)
+    return " ".join("-" if part is None else str(part) for part in reply[:4])
+
+
+A = (4, [4, 8, 11, 15])
+B = (3, [0, 1, 2, 3, 4])
+C = (1, [0, 1])
+BENCH = [
+    (A, "has", 11, "0 - 3 0"), (A, "prev", 4, "8 - 1 0"), (A, "next", 9, "0 11 3 0"),
+    (A, "next", 15, "8 - 3 0"), (A, "prev", 9, "0 8 3 0"),
+    (A, "gap", 9, "0 1 6 0"), (A, "gap", 0, "0 4 2 0"),
+    (B, "prev", 4, "0 3 5 0"), (B, "next", 3, "0 4 5 0"), (B, "last", None, "0 4 2 0"),
+    (C, "prev", 1, "0 0 2 0"), (C, "has", 1, "0 - 2 0"),
+]
+
+
+def examples():
+    same("example", "lines", lines.run(tabs(EXAMPLE_IN)), tabs(EXAMPLE_OUT))
+    same("example", "lines, last without byte 10",
+         lines.run(tabs(EXAMPLE_IN)[:-1]), tabs(EXAMPLE_OUT))
+    # Every arrival gives the same tree, so each example is asked of two.
+    for backwards in (False, True):
+        def table_of(example):
+            w, words = example
+            return made(w, words[::-1] if backwards else words, 8)
+        same("example", "A", shape(table_of(A)[0]), (4, (), (8, (11, (), ()), (15, (), ()))))
+        for example, call, k, wanted in BENCH:
+            given = [] if k is None else [k]
+            same("example", (call, k), ask(*table_of(example), call, *given), wanted)
+    # "W 32 takes 4,294,967,295. W 4 takes 15, refuses 16."
+    for w, k, answer in ((32, 4294967295, 0), (4, 15, 0), (4, 16, 3)):
+        same("example", (w, k), pretree.add(*made(w, [], 2), k).answer, answer)
+    # "Table of 3 words, W 4: `add` 5 answers 0, `add` 6 answers 5, `add` 5 answers 7."
+    table, header = made(4, [], 1)
+    for k, answer in ((5, 0), (6, 5), (5, 7)):
+        reply = pretree.add(table, header, k)
+        same("example", ("add", k), reply.answer, answer)
+        header = reply.header
+    # "One row 4, 0, 9 with W 4 and count 1: `has` 4 found, 1 row; `has` 8 answers 4;
+    # `audit` answers 4."
+    table, header = [4, 0, 9], (4, 1)
+    same("example", "has 4", ask(table, header, "has", 4), "0 - 1 0")
+    same("example", "has 8", ask(table, header, "has", 8), "4 - 0 0")
+    same("example", "audit", ask(table, header, "audit"), "4 - 0 0")
+
+
+# ---- lines that are read, and lines that are not ----
+
+READ = [b"new\t0", b"add\t0", b"del\t9", b"has\t10", b"next\t4294967295", b"prev\t1000000000",
+        b"gap\t7", b"first", b"last", b"list", b"audit"]
+NOT_READ = [b"", b"add", b"add\t", b"add 5", b"add5", b"add\t\t5", b"add\t5\t", b"add\t5 ",
+            b" add\t5", b"add\t05", b"add\t00", b"add\t10000000000", b"add\t00000000001",
+            b"add\t4294967296", b"add\t9999999999", b"add\t-1", b"add\t+1", b"ADD\t5",
+            b"adds\t5", b"\t5", b"add\t5\r", b"list\r", b"list ", b"list\t", b"list\t5",
+            b"LIST", b"add\t5\0", b"\0", b"add\t\xb2", b"\xff", b"add\t" + b"1" * 59,
+            b"add\t" + b"0" * 59 + b"5", b"add\t5" + b" " * 59, b"add\t5" + b" " * 60,
+            b"x" * 5000, b"x" * 64 + b"list"]
+
+
+def read_or_not():
+    for line in READ:
+        same("line", line, lines.parse(line) is not None, True)
+    for line in NOT_READ:
+        same("line", line, lines.parse(line), None)
+    # A line not read leaves the set as it is and gives one reply line like any other.
+    data = b"new\t4\nadd\t3\n" + b"\n".join(NOT_READ) + b"\nlist"
+    wanted = ["1 0 - 0 0", "2 0 - 0 0"]
+    wanted += [f"{n} 9 - 0 0" for n in range(3, 3 + len(NOT_READ))]
+    wanted += [f"{3 + len(NOT_READ)} 0 - 1 0", "key 3", ""]
+    same("line", "all", lines.run(data), tabs("\n".join(wanted)))
+    # "A line ends with byte 10, or at the end of input if bytes are left."
+    same("line", "nothing", lines.run(b""), b"")
+    same("line", "two empty lines", lines.run(b"\n\n"), tabs("1 9 - 0 0\n2 9 - 0 0\n"))
+    same("line", "before new", lines.run(b"first"), tabs("1 2 - 0 0\n"))
+
+
+# ---- damage by hand: one table for each thing that document 01 calls damage ----
+
+FREE = [0, 0, 0]        # one row not in use, so that the table is not full
+BY_HAND = [
+    # A link that the way follows is the count; calls that don't follow it don't see it.
+    (3, 2, [1, 0, 2, 5, 0, 0] + FREE, {
+        "has 4": "4 - 0 0", "has 0": "8 - 1 0", "next 0": "0 1 1 0", "next 1": "4 - 0 0",
+        "prev 1": "8 - 1 0", "first": "0 1 1 0", "last": "4 - 0 0", "gap 0": "0 1 2 0",
+        "gap 1": "0 0 1 0", "gap 2": "4 - 0 0", "add 2": "0 - 1 0", "del 1": "4 - 0 0",
+        "audit": "4 - 0 0"}),
+    # A key of 2^W.
+    (3, 2, [1, 0, 1, 8, 0, 0] + FREE, {
+        "has 1": "0 - 1 0", "has 2": "8 - 1 0", "has 4": "4 - 0 0", "next 1": "4 - 0 0",
+        "add 1": "7 - 1 0", "add 2": "0 - 1 0", "last": "4 - 0 0"}),
+    (3, 1, [8, 0, 0], {"first": "4 - 0 0", "has 0": "4 - 0 0", "gap 0": "4 - 0 0"}),
+    # A key not greater than the one above it; then a loop. The push of `add` 0 comes
+    # to the loop, the way of `has` 2 stops before it.
+    (3, 2, [1, 1, 0, 1, 0, 0], {"has 1": "0 - 1 0", "has 2": "4 - 0 0", "del 1": "4 - 0 0"}),
+    (3, 2, [1, 1, 0, 2, 0, 1] + FREE, {
+        "has 2": "0 - 2 0", "has 3": "4 - 0 0", "next 2": "4 - 0 0", "last": "4 - 0 0",
+        "del 1": "4 - 0 0", "add 0": "4 - 0 0", "prev 4": "4 - 0 0", "prev 2": "0 1 2 0"}),
+    # A key without the bits of its path. `prev` and `gap` of 5 go where `next` doesn't.
+    (3, 2, [1, 1, 0, 5, 0, 0], {
+        "has 2": "4 - 0 0", "has 5": "8 - 1 0", "prev 5": "4 - 0 0", "gap 5": "4 - 0 0",
+        "next 5": "8 - 1 0"}),
+    # A row at depth W with a link, also where the way stops there for its key.
+    (1, 2, [0, 0, 1, 1, 1, 0], {
+        "has 1": "4 - 0 0", "has 0": "0 - 1 0", "next 0": "4 - 0 0", "last": "4 - 0 0",
+        "first": "0 0 1 0", "del 0": "4 - 0 0"}),
+    # The second way of `del` ends elsewhere: the last row is not linked, or its key is
+    # met at another row before it, or its key is 2^W or more. `has` doesn't see it.
+    (3, 3, [1, 1, 0, 2, 0, 0, 5, 0, 0], {
+        "has 2": "0 - 2 0", "del 2": "4 - 0 0", "has 5": "8 - 1 0", "del 5": "8 - 1 0"}),
+    (3, 3, [1, 1, 0, 2, 0, 0, 2, 0, 0], {"del 2": "4 - 0 0", "del 1": "4 - 0 0"}),
+    (3, 3, [1, 1, 0, 2, 0, 0, 9, 0, 0], {"del 2": "4 - 0 0"}),
+    # The push is on the way, also when the table is full: 4 before 5, but 7 before 5.
+    (3, 2, [4, 0, 1, 6, 0, 0], {"add 3": "5 - 0 0", "add 4": "7 - 1 0"}),
+    (3, 2, [4, 0, 1, 3, 0, 0], {"add 3": "4 - 0 0", "add 4": "7 - 1 0"}),
+    # Headers.
+    (0, 0, FREE, {"has 1": "2 - 0 0", "first": "2 - 0 0", "audit": "2 - 0 0"}),
+    (33, 0, FREE, {"has 1": "2 - 0 0", "last": "2 - 0 0", "gap 4000000000": "2 - 0 0"}),
+    (3, 2, [1, 0, 0, 0, 0], {"has 9": "2 - 0 0", "add 1": "2 - 0 0"}),
+    (3, 0, [], {
+        "add 1": "5 - 0 0", "add 8": "3 - 0 0", "audit": "0 - 0 0", "first": "8 - 0 0",
+        "gap 3": "8 - 0 0", "has 3": "8 - 0 0", "next 3": "8 - 0 0", "prev 3": "8 - 0 0"}),
+]
+
+
+def largest_capacity():
+    # "at most 65,535. Words past the last whole row, or past that limit, are never changed."
+    table = [5] * (3 * 65537)
+    same("by hand", "new", ask(table, (0, 0), "new", 32), "0 - 0 0")
+    same("by hand", "past the limit", table, [0] * (3 * 65535) + [5] * 6)
+    same("by hand", "count of 65,536", ask(table, (32, 65536), "first"), "2 - 0 0")
+    same("by hand", "count of 65,535", ask(table, (32, 65535), "add", 0), "7 - 1 0")
+    same("by hand", "full", ask(table, (32, 65535), "add", 1), "5 - 0 0")
+
+
+def by_hand():
+    largest_capacity()
+    for w, count, table, questions in BY_HAND:
+        for question, wanted in questions.items():
+            call, *k = question.split()
+            same("by hand", (w, count, table, question),
+                 ask(list(table), (w, count), call, *map(int, k)), wanted)
+
+
+# ---- random runs: the table against the plain dictionary ----
+
+SINGLE = ["has", "next", "prev", "gap", "add", "add", "add", "del", "del"]
+
+
+def within_bounds(call, header, reply):
+    w, count = header
+    most = {"new": 0, "gap": 2 * w + 4, "next": w + 2, "prev": w + 2,
+            "audit": count, "list": count}.get(call, w + 1)
+    same("bound", (call, header, reply), reply.rows <= most, True)
+    # "it is 0 where nothing moves, and in every other call"
+    moved = w + 1 if call == "del" and reply.answer == 0 else 0
+    same("bound", (call, header, reply), reply.moving <= moved, True)
+
+
+def compare(table, header, d, call, given):
+    """One call on both; returns the new header."""
+    if call == "list":
+        (length,) = given
+        ours, theirs = [9] * length, [9] * length
+        got = pretree.list_(table, header, ours)
+        wanted = d.list(theirs)
+        same("call", "buffer", ours, theirs)
+    else:
+        got = CALLS[call](table, header, *given)
+        wanted = getattr(d, "del_" if call == "del" else call)(*given)
+    same("call", (call, given, header), got, wanted)
+    within_bounds(call, header, got)
+    return got.header
+
+
+def random_run(g, w, rows, calls, near):
+    tail = [g.wild() for _ in range(g.draw(3))]
+    table = [g.wild() for _ in range(3 * rows)] + tail
+    d = Dictionary(rows)
+    header = pretree.new(table, (g.wild(), g.wild()), w).header
+    d.new(w)
+    erasing = False
+    for _ in range(calls):
+        # Sets grow until they are full and shrink until they are empty, by turns.
+        if len(d.words) == rows or (d.words and len(d.words) == 2 ** w):
+            erasing = True
+        elif not d.words:
+            erasing = False
+        p = g.draw(32)
+        if p == 0:
+            call, given = "list", [max(0, len(d.words) + 1 - g.draw(3))]
+        elif p < 4:
+            call, given = ("first", "last", "audit")[p - 1], []
+        elif p == 4 and g.draw(8) == 0:
+            call, given = "new", [(0, w, w, 33, g.wild())[g.draw(5)]]
+        else:
+            call = SINGLE[g.draw(len(SINGLE))]
+            if call in ("add", "del") and g.draw(4):
+                call = "del" if erasing else "add"
+            k = g.draw(min(2 ** w, 2 * rows)) if near else g.wild() // 2 ** (32 - w)
+            if d.words and g.draw(3) == 0:
+                k = d.words[g.draw(len(d.words))]
+            if d.words and g.draw(3) == 0:
+                k = (k + 2 ** 32 - 1 + g.draw(3)) % 2 ** 32
+            given = [k]
+        header = compare(table, header, d, call, given)
+        # The whole table, so the set, the rows past the count, and the words past the rows.
+        same("table", (call, given), table, d.rows() + tail)
+
+
+def random_runs():
+    g = Draw(2024)
+    for w in (1, 2, 3, 8, 31, 32):
+        for rows in (1, 3, 12, 40):
+            for near in (True, False):
+                random_run(g, w, rows, 200 + 20 * rows, near)
+
+
+def every_small_set():
+    """Every set of widths 1 to 3 and every word, for the calls that only read."""
+    for w in (1, 2, 3):
+        for members in range(2 ** 2 ** w):
+            words = [k for k in range(2 ** w) if members >> k & 1]
+            table, header = made(w, words[::-1], 8)
+            d = Dictionary(8)
+            d.w, d.words = w, words
+            for k in range(2 ** w + 1):
+                for call in ("has", "next", "prev", "gap"):
+                    compare(table, header, d, call, [k])
+            for call in ("first", "last", "audit"):
+                compare(table, header, d, call, [])
+
+
+# ---- laws of damaged tables ----
+
+def sound_by_the_tree(table, header):
+    """Sound, said again: the rows in use are the sound tree of their keys, in some numbering."""
+    w, count = header
+    keys = table[0:3 * count:3]
+    words = sorted(set(keys))
+    if len(words) != count or any(k >= 2 ** w for k in words):
+        return None
+    d = Dictionary(pretree.capacity(table))
+    d.w, d.words = w, words
+    d.number = {place: keys.index(k) for place, k in dictionary.places(words, w).items()}
+    # The root is row 0, and the rows are just those of the tree.
+    if count and (d.number[""] != 0 or d.rows()[:3 * count] != table[:3 * count]):
+        return None
+    return d
+
+
+def add_and_del_on_sound(table, header, k):
+    """The rows in use, and the row that `del` frees, are the dictionary's; the rest stays."""
+    for call in ("add", "del"):
+        copy = list(table)
+        d = sound_by_the_tree(table, header)
+        wanted = getattr(d, "del_" if call == "del" else call)(k)
+        same("damaged", call, CALLS[call](copy, header, k), wanted)
+        seen = 3 * max(header[1], wanted.header[1])
+        same("damaged", (call, "rows"), copy, d.rows()[:seen] + table[seen:])
+
+
+def watch(kind, call, reply, before, after, *given):
+    table, header = before
+    if reply.answer not in (0, 7, 8):
+        same("damaged", "refusal", reply, Reply(reply.answer, None, 0, 0, header))
+    if reply.answer != 0 or call not in ("add", "del", "new"):
+        same("damaged", (kind, call, "untouched"), after, table)
+    within_bounds(call, header, reply)
+    if call == "audit" and reply.answer != 2:
+        d = sound_by_the_tree(table, header)
+        same("damaged", (table, header, "audit"), reply.answer, 4 if d is None else 0)
+        if d is not None:
+            # A sound table answers as the dictionary, whatever is past its rows in use.
+            for k in set(table[0:3 * header[1]:3]) | {0, 2 ** header[0] - 1}:
+                for name in ("has", "next", "prev", "gap"):
+                    same("damaged", name, CALLS[name](table, header, k), getattr(d, name)(k))
+                add_and_del_on_sound(table, header, k)
+            same("damaged", "last", pretree.last(table, header), d.last())
+
+
+def main():
+    examples()
+    read_or_not()
+    by_hand()
+    every_small_set()
+    random_runs()
+    for _ in damage.run(1500, 7, watch):
+        pass
+    for done, h in damage.run(100, 1):
+        same("damaged", "digest", h, damage.SEED_1[done])
+    print("\n".join(f"{kind}\t{n}" for kind, n in counts.items()))
+    print("ok")
+
+
+main()
