@@ -1,0 +1,14 @@
+pub mod Tests
+pub mod Numbers
+pub mod Heads
+pub mod Digits
+pub mod ReadBack
+pub mod Puts
+pub mod Spelling
+pub mod KeyLines
+pub mod Pieces
+pub mod Gathering
+pub mod Running
+pub mod Feeding
+pub mod Serving
+pub mod Examples

@@ -1,0 +1,77 @@
+-- A call that is run, and a line that is answered.
+use Prim.Native.Nat.{ℕ, _+_, _≤_}
+use mathlib.Core.Path.{_≡_, refl}
+use mathlib.Core.Bool.{true, false}
+use mathlib.Core.List.{List}
+use mathlib.Core.Logic.{⊎-elim}
+use native.Mathlib.Omega.{arith}
+use borrow.Author.Tests.{ltb-false}
+use lib.Dec.{ltb}
+use native.Mathlib.Numerals.{add-one}
+use lib.ListN.{length, take}
+use Rattle.pretree.specs.declared.Header.{Header}
+use Rattle.pretree.specs.Answer.{numberOf}
+use Rattle.pretree.specs.Reply.{wrong-header}
+use Rattle.pretree.specs.Sound.{isSound}
+use Rattle.pretree.specs.Whole.{listReply}
+use Rattle.lines.specs.declared.Call.{Call}
+use Rattle.lines.specs.declared.Call.the-variants.{New, Add, Del, Has, Next, Prev, Gap, First, Last, Audit}
+use Rattle.lines.specs.declared.Line.the-variants.{Read, Unread}
+use Rattle.lines.specs.declared.answer.Ran.{Ran}
+use Rattle.lines.specs.Render.{saidOf, notRead, replyLine, keyLines, Put}
+use Rattle.lines.specs.Output.{State, run, listedIn, answer}
+use Rattle.lines.specs.Answering.{Runs, stateOf, Answers}
+use Rattle.lines.proofs.Tests.{either}
+use Rattle.lines.proofs.Puts.{put-then}
+
+-- "6: `list` buffer shorter than count"
+list-within : (h : Header) (t b : List ℕ) → listedIn (listReply h t b) ≤ length b
+unfolding listReply numberOf
+list-within h t b =
+    ⊎-elim
+    (λ (w : wrong-header h t ≡ true). rw w (omega arith))
+    (λ (w : wrong-header h t ≡ false).
+    ⊎-elim
+    (λ (s : isSound h t ≡ true).
+    ⊎-elim
+    (λ (l : ltb (length b) (h .count) ≡ true). rw (w, s, l) (omega arith))
+    (λ (l : ltb (length b) (h .count) ≡ false). rw (w, s, l) (ltb-false _ _ l))
+    (either (ltb (length b) (h .count))))
+    (λ (s : isSound h t ≡ false). rw (w, s) (omega arith))
+    (either (isSound h t)))
+    (either (wrong-header h t))
+
+pub listed-within : (h : Header) (t b : List ℕ) (call : Call) → run h t b call .listed ≤ length b
+unfolding run
+listed-within h t b (New k) = omega arith
+listed-within h t b (Add k) = omega arith
+listed-within h t b (Del k) = omega arith
+listed-within h t b (Has k) = omega arith
+listed-within h t b (Next k) = omega arith
+listed-within h t b (Prev k) = omega arith
+listed-within h t b (Gap k) = omega arith
+listed-within h t b First = omega arith
+listed-within h t b Last = omega arith
+listed-within h t b Call.List = list-within h t b
+listed-within h t b Audit = omega arith
+
+-- a line whose call was run, and a line that is not read
+module _ (s : State) where
+  pub call-answered :
+      (call : Call) {r : Ran} {rows words out middle left : List ℕ} {at next end : ℕ} → Runs (run (s .header) (s .table) (s .buffer) call) r rows words
+      → Put out at (replyLine (s .lines + 1) (saidOf (r .reply))) middle next → Put middle next (keyLines (take (r .listed) words)) left end
+      → end ≤ length left
+      → Answers (answer s (Read call)) (stateOf (r .reply .header) rows words (s .lines + 1)) out at left end
+  unfolding answer
+  call-answered call h p q f =
+      record {
+        state = rw (h .reply, h .table, h .buffer, add-one);
+        put = rw (← h .reply, ← h .listed, ← h .buffer, ← add-one (s .lines)) (put-then p q);
+        fits = f;
+      }
+
+  pub unread-answered :
+      {out left : List ℕ} {at next : ℕ} → Put out at (replyLine (s .lines + 1) notRead) left next → next ≤ length left
+      → Answers (answer s Unread) (stateOf (s .header) (s .table) (s .buffer) (s .lines + 1)) out at left next
+  unfolding answer
+  unread-answered p f = record { state = rw add-one; put = rw (← add-one (s .lines)) p; fits = f }

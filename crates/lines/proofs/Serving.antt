@@ -1,0 +1,43 @@
+-- What the loops over standard input keep.
+use Prim.Native.Nat.{ℕ, _+_, _*_, _^_, _≤_, _<_}
+use mathlib.Core.Path.{_≡_}
+use mathlib.Core.List.{List}
+use lib.ListN.{length}
+use native.Mathlib.Omega.{arith}
+use Rattle.lines.specs.declared.session.Session.{Session as Kept}
+use Rattle.lines.specs.declared.session.Went.{Went}
+use Rattle.lines.specs.Answering.{Moves}
+
+-- the sizes of the lent slices are those at the start, and enough
+pub record Lent (table₀ words₀ buffer₀ out₀ table words buffer out : List ℕ) : Type 0 where
+  pub table-size : length table ≡ length table₀
+  pub words-size : length words ≡ length words₀
+  pub buffer-size : length buffer ≡ length buffer₀
+  pub out-size : length out ≡ length out₀
+  pub holds : length buffer ≡ 65
+  pub room : 65 + 15 * length words ≤ length out
+
+-- a piece was answered up to the place `from`
+pub record Speaking (piece : List ℕ) (kept₀ kept : Kept) (from : ℕ) : Type 0 where
+  pub within : from ≤ length piece
+  pub held : kept .held ≤ 65
+  pub lines : kept .lines ≤ kept₀ .lines + from
+  pub few : kept₀ .lines + length piece < 2 ^ 64
+
+pub lent-on :
+    {table₀ words₀ buffer₀ out₀ table words buffer out rows list hold left : List ℕ} → Lent table₀ words₀ buffer₀ out₀ table words buffer out
+    → length rows ≡ length table → length list ≡ length words → length hold ≡ length buffer → length left ≡ length out
+    → Lent table₀ words₀ buffer₀ out₀ rows list hold left
+lent-on l t w b o = omega arith
+
+pub spoke-on :
+    {piece : List ℕ} {kept₀ kept : Kept} {from room : ℕ} {r : Went} → Speaking piece kept₀ kept from → Moves from (length piece) room kept r
+    → Speaking piece kept₀ (r .session) (r .from)
+spoke-on s m = omega arith
+
+-- so many turns may still read
+pub record Reading (input₀ input : List ℕ) (kept : Kept) (turns : ℕ) : Type 0 where
+  pub input-size : length input ≡ length input₀
+  pub short : length input ≤ 65536
+  pub held : kept .held ≤ 65
+  pub lines : kept .lines + 65536 * turns ≤ 2 ^ 63

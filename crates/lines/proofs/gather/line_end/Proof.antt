@@ -1,0 +1,53 @@
+-- The loop's invariant: the end that is looked for is as far from the place reached as from the start.
+use Prim.Native.Nat.{_+_, _-_, _≤_}
+use mathlib.Core.Path.{_≡_}
+use native.Mathlib.Omega.{arith}
+use native.Mathlib.Numerals.{add-one}
+use lib.ListN.{length, drop}
+use Rattle.lines.specs.Gather.{untilEnd}
+use Rattle.lines.proofs.Gathering.{until-none, until-here, until-on}
+use Rattle.lines.proofs.gather.line_end.Statement.{statement}
+use Rattle.lines.proofs.gather.line_end.Tie as tie
+
+abbrev Inv-loop : tie.InvT-loop
+Inv-loop piece from i₀ i = (i ≤ length piece) × (i + untilEnd (drop i piece) ≡ from + untilEnd (drop from piece))
+
+abbrev μ-loop : tie.MeasureT-loop
+μ-loop piece from i₀ i = length piece - i
+
+loop-holds : tie.Need-loop-holds Inv-loop μ-loop
+loop-holds c = omega arith
+
+shared-slice-read-if1 : tie.Need-shared-slice-read-if1 Inv-loop μ-loop
+shared-slice-read-if1 c = omega arith
+
+returns : tie.Need-returns Inv-loop μ-loop
+returns c = omega (arith, until-here (c .before .before .before .before .args .piece .now) (c .before .before .before .loop .i) (c .before .before .loop-test .taken) (c .if1 .taken))
+
+add-i : tie.Need-add-i Inv-loop μ-loop
+add-i c = omega arith
+
+loop-less : tie.Need-loop-less Inv-loop μ-loop
+loop-less c = omega arith
+
+loop-again : tie.Need-loop-again Inv-loop μ-loop
+loop-again c =
+    rw add-one
+    (omega (arith, until-on (c .before .before .before .before .args .piece .now) (c .before .before .before .loop .i) (c .before .before .loop-test .taken) (c .if1 .left)))
+
+returns-2 : tie.Need-returns-2 Inv-loop μ-loop
+returns-2 c = omega (arith, until-none (c .before .before .args .piece .now) (c .before .loop .i) (c .loop-test .left))
+
+pub line-end-spec : {M : Type 1} → statement M
+line-end-spec =
+    tie.close
+    (tie.spec
+    Inv-loop
+    μ-loop
+    loop-holds
+    shared-slice-read-if1
+    returns
+    add-i
+    loop-less
+    loop-again
+    returns-2)

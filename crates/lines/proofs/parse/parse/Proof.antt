@@ -1,0 +1,65 @@
+-- A line of 4 to 64 bytes means what its head and its rest mean.
+use Prim.Native.Nat.{ℕ, _<_}
+use mathlib.Core.Path.{sym}
+use native.Mathlib.Omega.{arith}
+use lib.ListN.{getD}
+use Rattle.lines.proofs.Heads.{short-unread, long-unread, by-head, rest-of}
+use borrow.Author.Needs.{needs}
+use Rattle.lines.proofs.parse.parse.Statement.{statement}
+use Rattle.lines.proofs.parse.parse.Tie as tie
+
+returns : tie.Need-returns
+returns c = sym (short-unread (c .before .before .args .line .now) (c .if1 .taken))
+
+returns-2 : tie.Need-returns-2
+returns-2 c = sym (long-unread (c .before .before .before .args .line .now) (c .if2 .taken))
+
+shared-slice-read-packed : tie.Need-shared-slice-read-packed
+shared-slice-read-packed c = search needs
+
+shared-slice-read-packed-2 : tie.Need-shared-slice-read-packed-2
+shared-slice-read-packed-2 c = search needs
+
+shared-slice-read-packed-3 : tie.Need-shared-slice-read-packed-3
+shared-slice-read-packed-3 c = search needs
+
+shared-slice-read-packed-4 : tie.Need-shared-slice-read-packed-4
+shared-slice-read-packed-4 c = search needs
+
+packed-requires : tie.Need-packed-requires
+packed-requires c κs = search needs
+
+sub-by-head : tie.Need-sub-by-head
+sub-by-head c = search needs
+
+part-by-head-start : tie.Need-part-by-head-start
+part-by-head-start c = search needs
+
+part-by-head-end : tie.Need-part-by-head-end
+part-by-head-end c = search needs
+
+by-head-requires : tie.Need-by-head-requires
+by-head-requires c κs = search needs
+
+returns-3 : tie.Need-returns-3
+returns-3 c =
+    let line = c .before .before .before .before .before .before .before .before .before .before .args .line .now in
+    let small : (i : ℕ) → getD line i 0 < 256 = λ i. omega (arith, c .before .before .before .before .before .before .before .before .before .shared-slice-known .given i) in
+    rw (by-head line (omega arith) (omega arith) small, ← rest-of line 4, ← c .before .before .packed .ensures) (c .by-head .ensures)
+
+pub parse-spec : {M : Type 1} → statement M
+parse-spec =
+    tie.close
+    (tie.spec
+    returns
+    returns-2
+    shared-slice-read-packed
+    shared-slice-read-packed-2
+    shared-slice-read-packed-3
+    shared-slice-read-packed-4
+    packed-requires
+    sub-by-head
+    part-by-head-start
+    part-by-head-end
+    by-head-requires
+    returns-3)

@@ -1,0 +1,53 @@
+-- What the functions of `src/answer.rt` and `src/session.rt` leave behind, in the words of Output.antt.
+use Prim.Native.Nat.{ℕ, _+_, _<_, _≤_}
+use mathlib.Core.Path.{_≡_}
+use mathlib.Core.List.{List}
+use lib.ListN.{length}
+use Rattle.pretree.specs.declared.Header.{Header}
+use Rattle.pretree.specs.declared.Reply.{Reply}
+use Rattle.lines.specs.declared.answer.Ran.{Ran}
+use Rattle.lines.specs.declared.session.Session.{Session as Kept}
+use Rattle.lines.specs.declared.session.Went.{Went}
+use Rattle.lines.specs.Render.{Put}
+use Rattle.lines.specs.Output.{State, Outcome, Step, Session, taken, told}
+use Rattle.lines.specs.Gather.{Held}
+
+-- a call was run, and this is what it left
+pub record Runs (o : Outcome) (r : Ran) (rows words : List ℕ) : Type 0 where
+  pub reply : r .reply ≡ o .reply
+  pub listed : r .listed ≡ o .listed
+  pub table : rows ≡ o .table
+  pub buffer : words ≡ o .buffer
+
+abbrev pub stateOf : Header → List ℕ → List ℕ → ℕ → State
+stateOf h table buffer lines = record { header = h; table = table; buffer = buffer; lines = lines }
+
+-- a line was answered: the state is the one after it, and what is written for it was put at the place `at`
+pub record Answers (s : Step) (after : State) (out : List ℕ) (at : ℕ) (left : List ℕ) (next : ℕ) : Type 0 where
+  pub state : after ≡ s .state
+  pub put : Put out at (s .written) left next
+  pub fits : next ≤ length left
+
+-- an input was taken in: the state is the one after it, the bytes of the line that has not ended are held, and what is told was put
+pub record Feeds (s : Session) (input : List ℕ) (after : State) (buffer : List ℕ) (count : ℕ) (out : List ℕ) (at : ℕ) (left : List ℕ) (next : ℕ)
+    : Type 0 where
+  pub state : after ≡ taken s input .state
+  pub held : Held buffer count (taken s input .line)
+  pub put : Put out at (told s input) left next
+
+abbrev pub sessionOf : Header → List ℕ → List ℕ → ℕ → List ℕ → Session
+sessionOf h table buffer lines line = record { state = stateOf h table buffer lines; line = line }
+
+-- the same of every line of which the buffer holds what is kept
+abbrev pub Fed : Kept → List ℕ → List ℕ → List ℕ → List ℕ → ℕ → List ℕ → Went → List ℕ → List ℕ → List ℕ → List ℕ → Type 0
+Fed s table words buffer out at input r rows list hold left =
+    (line : List ℕ) → Held buffer (s .held) line
+    → Feeds (sessionOf (s .header) table words (s .lines) line) input (stateOf (r .session .header) rows list (r .session .lines)) hold (r .session .held) out at left (r .next)
+
+-- how far a session went: past the place where it was, not past the end of the piece nor of the buffer, with no more lines than bytes
+pub record Moves (from end room : ℕ) (s : Kept) (r : Went) : Type 0 where
+  pub onward : from < r .from
+  pub within : r .from ≤ end
+  pub fits : r .next ≤ room
+  pub held : r .session .held ≤ 65
+  pub lines : r .session .lines + from ≤ s .lines + r .from

@@ -1,0 +1,64 @@
+-- What a reply looks like, as bytes.
+-- Document 01: "Each line gives one reply line: line number from 1, answer number, key or `-`, rows read, moving count, parted by tabs. After
+-- a `list` with answer 0 come lines `key`, tab, word."
+use Prim.Native.Nat.{ℕ, zero, suc, _+_, _/_, _%_}
+use mathlib.Core.Path.{_≡_}
+use mathlib.Core.List.{List, [], _∷_, _++_}
+use lib.Dec.{ltb}
+use lib.ListN.{length}
+use lib.Seq.{sets}
+use Rattle.ordered.specs.Such.{if_then_else_}
+use Rattle.pretree.specs.declared.Reply.{Reply}
+use Rattle.pretree.specs.Answer.{numberOf, keyOf}
+use Rattle.lines.specs.declared.Number.{Number}
+use Rattle.lines.specs.declared.Number.the-variants.{Of, Nothing}
+use Rattle.lines.specs.declared.Said.{Said}
+use Rattle.lines.specs.Text.{bytes}
+use Rattle.lines.specs.Line.{asNumber}
+
+abbrev pub digit : ℕ → ℕ
+digit d = 48 + d
+
+-- the digits of n, if there are at most k
+unfoldable pub digitsWithin : ℕ → ℕ → List ℕ
+digitsWithin zero n = []
+digitsWithin (suc k) n =
+    let more : List ℕ = digitsWithin k (n / 10) ++ digit (n % 10) ∷ [] in
+    if ltb n 10 then digit n ∷ []
+    else more
+
+-- a number in decimal, without leading zeros. It has no more digits than n + 1.
+unfoldable pub digits : ℕ → List ℕ
+digits n = digitsWithin (suc n) n
+
+-- a tab and a number
+abbrev pub field : ℕ → List ℕ
+field n = bytes "\t" ++ digits n
+
+-- a tab and "key or `-`"
+abbrev pub keyField : Number → List ℕ
+keyField Nothing = bytes "\t-"
+keyField (Of k) = field k
+
+-- what a reply line says behind its line number
+abbrev pub saidOf : Reply → Said
+saidOf r = record { answer = numberOf (r .answer); key = asNumber (keyOf (r .answer)); rows = r .rows; moved = r .moved }
+
+-- "9: program only: line not read"
+abbrev pub notRead : Said
+notRead = record { answer = 9; key = Nothing; rows = 0; moved = 0 }
+
+unfoldable pub replyLine : ℕ → Said → List ℕ
+replyLine line s = digits line ++ field (s .answer) ++ keyField (s .key) ++ field (s .rows) ++ field (s .moved) ++ bytes "\n"
+
+unfoldable pub keyLine : ℕ → List ℕ
+keyLine k = bytes "key" ++ field k ++ bytes "\n"
+
+unfoldable pub keyLines : List ℕ → List ℕ
+keyLines [] = []
+keyLines (k ∷ ks) = keyLine k ++ keyLines ks
+
+-- a text was put into a buffer at a place, all else there is as it was, and this is the place behind it
+pub record Put (buffer : List ℕ) (at : ℕ) (text : List ℕ) (left : List ℕ) (next : ℕ) : Type 0 where
+  pub content : left ≡ sets buffer at text
+  pub place : next ≡ at + length text

@@ -1,0 +1,122 @@
+// Answering one line: it is read, its call is run, and the reply is put into a lent buffer.
+
+use crate::Call;
+use crate::Line;
+use crate::parse::parse;
+use crate::put::put_keys;
+use crate::put::put_reply;
+use crate::reply::not_read;
+use crate::reply::number_of;
+use crate::reply::said;
+use pretree::Header;
+use pretree::Reply;
+ghost use mathlib.Core.Path.{_≡_};
+ghost use Prim.Native.Nat.{_+_, _*_, _<_, _≤_, _^_};
+ghost use lib.ListN.{length};
+ghost use Rattle.lines.specs.Line.{parse};
+ghost use Rattle.lines.specs.declared.Line.the-variants.{Read};
+ghost use Rattle.lines.specs.Output.{run, answer, leaving, listedIn};
+ghost use Rattle.lines.specs.Answering.{Runs, stateOf, Answers};
+
+// What a call replied, and how many words of the buffer are listed behind the reply.
+pub struct Ran {
+    pub reply: Reply,
+    pub listed: u32,
+}
+
+fn unlisted(reply: Reply) -> Ran
+    ensures { λ r. ⌜ (r .reply ≡ reply) × (r .listed ≡ 0) ⌝ }
+{
+    Ran { reply, listed: 0 }
+}
+
+// "After a `list` with answer 0"
+fn listed(reply: Reply) -> Ran
+    ensures { λ r. ⌜ (r .reply ≡ reply) × (r .listed ≡ listedIn reply) ⌝ }
+{
+    let answer = reply.answer;
+    if number_of(answer) == 0 {
+        Ran {
+            reply,
+            listed: reply.header.count,
+        }
+    } else {
+        Ran { reply, listed: 0 }
+    }
+}
+
+fn run(call: Call, header: Header, table: &mut [u32], words: &mut [u32]) -> Ran
+    ensures { λ r. ⌜ Runs (run header (now (table .entry)) (now (words .entry)) call) r (now (table .exit)) (now (words .exit)) ⌝ }
+{
+    match call {
+        Call::New(width) => unlisted(header.new(table, width)),
+        Call::Add(k) => unlisted(header.add(table, k)),
+        Call::Del(k) => unlisted(header.del(table, k)),
+        Call::Has(k) => unlisted(header.has(table, k)),
+        Call::Next(k) => unlisted(header.next(table, k)),
+        Call::Prev(k) => unlisted(header.prev(table, k)),
+        Call::Gap(k) => unlisted(header.gap(table, k)),
+        Call::First => unlisted(header.first(table)),
+        Call::Last => unlisted(header.last(table)),
+        Call::List => listed(header.list(table, words)),
+        Call::Audit => unlisted(header.audit(table)),
+    }
+}
+
+// The header after a line, and the place behind its reply.
+pub struct Told {
+    pub header: Header,
+    pub next: usize,
+}
+
+// Answers the line that comes after `lines` lines. A reply takes at most 65 bytes, and 15 for each word that is listed.
+pub fn answer(
+    line: &[u8],
+    lines: u64,
+    header: Header,
+    table: &mut [u32],
+    words: &mut [u32],
+    out: &mut [u8],
+    at: usize,
+) -> Told
+    requires { ⌜ lines + 1 < 2 ^ 64 ⌝ }
+    requires { ⌜ at + 65 + 15 * length (now words) ≤ length (now out) ⌝ }
+    ensures { λ r. ⌜ Answers (answer (stateOf header (now (table .entry)) (now (words .entry)) lines) (parse (now (line .entry))))
+        (stateOf (r .header) (now (table .exit)) (now (words .exit)) (lines + 1))
+        (now (out .entry)) at (now (out .exit)) (r .next) ⌝ }
+{
+    let read = parse(line);
+    match read {
+        Line::Read(call) => answer_call(call, lines, header, table, words, out, at),
+        Line::Unread => Told {
+            header,
+            next: put_reply(out, at, lines + 1, not_read()),
+        },
+    }
+}
+
+fn answer_call(
+    call: Call,
+    lines: u64,
+    header: Header,
+    table: &mut [u32],
+    words: &mut [u32],
+    out: &mut [u8],
+    at: usize,
+) -> Told
+    requires { ⌜ lines + 1 < 2 ^ 64 ⌝ }
+    requires { ⌜ at + 65 + 15 * length (now words) ≤ length (now out) ⌝ }
+    ensures { λ r. ⌜ Answers (answer (stateOf header (now (table .entry)) (now (words .entry)) lines) (Read call))
+        (stateOf (r .header) (now (table .exit)) (now (words .exit)) (lines + 1))
+        (now (out .entry)) at (now (out .exit)) (r .next) ⌝ }
+{
+    let ran = run(call, header, table, words);
+    let reply = ran.reply;
+    let after = reply.header;
+    let n = ran.listed as usize;
+    let next = put_reply(out, at, lines + 1, said(reply));
+    Told {
+        header: after,
+        next: put_keys(out, next, &words[..n]),
+    }
+}

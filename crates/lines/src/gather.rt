@@ -1,0 +1,37 @@
+// Gathering lines from pieces of input: where a line ends, and what is held of one that has not ended.
+
+ghost use mathlib.Core.Path.{_≡_};
+ghost use Prim.Native.Nat.{_+_, _-_, _≤_};
+ghost use lib.ListN.{length, take, drop};
+ghost use Rattle.lines.specs.Render.{Put};
+ghost use Rattle.lines.specs.Gather.{untilEnd};
+
+// The place of the first byte 10 from `from` on, or the end of the piece.
+pub fn line_end(piece: &[u8], from: usize) -> usize
+    requires { ⌜ from ≤ length (now piece) ⌝ }
+    ensures { λ r. ⌜ r ≡ from + untilEnd (drop from (now (piece .entry))) ⌝ }
+{
+    let mut i = from;
+    while i < piece.len() {
+        if piece[i] == b'\n' {
+            return i;
+        }
+        i += 1;
+    }
+    i
+}
+
+// Holds a part of a line behind the `count` bytes that are held already, but no more than the buffer takes.
+pub fn hold(buffer: &mut [u8], count: usize, part: &[u8]) -> usize
+    requires { ⌜ count ≤ length (now buffer) ⌝ }
+    ensures { λ r. ⌜ Put (now (buffer .entry)) count (take (length (now (buffer .entry)) - count) (now (part .entry))) (now (buffer .exit)) r ⌝ }
+{
+    let room = buffer.len() - count;
+    let most = if part.len() < room { part.len() } else { room };
+    let mut i: usize = 0;
+    while i < most {
+        buffer[count + i] = part[i];
+        i += 1;
+    }
+    count + most
+}

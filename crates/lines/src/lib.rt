@@ -1,0 +1,47 @@
+// The line language of the bench: reading a line, and writing the reply to it.
+// Document 01, "The line program".
+
+mod answer;
+mod gather;
+mod parse;
+mod put;
+mod reply;
+mod serve;
+mod session;
+
+pub use serve::run;
+
+// A call that a line asks for.
+pub enum Call {
+    New(u32),
+    Add(u32),
+    Del(u32),
+    Has(u32),
+    Next(u32),
+    Prev(u32),
+    Gap(u32),
+    First,
+    Last,
+    List,
+    Audit,
+}
+
+// What a line is read as. "Anything else [..] is answer 9."
+pub enum Line {
+    Read(Call),
+    Unread,
+}
+
+// A number, or none: what digits are read as, and the key of a reply.
+pub enum Number {
+    Of(u32),
+    Nothing,
+}
+
+// What a reply line says behind its line number.
+pub struct Said {
+    pub answer: u32,
+    pub key: Number,
+    pub rows: u32,
+    pub moved: u32,
+}

@@ -1,0 +1,157 @@
+// Reading a line: specs/Line.antt says what each line means.
+
+use crate::Call;
+use crate::Line;
+use crate::Number;
+ghost use mathlib.Core.Path.{_≡_};
+ghost use Rattle.lines.specs.Line.{parse, number, asNumber, if-nothing, lineOf};
+ghost use Rattle.lines.specs.Head.{packed, byHead, callOf, numbered, numberedAfter, aloneAfter};
+
+// The words behind which a number stands.
+pub enum Word {
+    New,
+    Add,
+    Del,
+    Has,
+    Next,
+    Prev,
+    Gap,
+}
+
+impl Word {
+    fn call(self, k: u32) -> Call
+        ensures { λ r. ⌜ r ≡ callOf self k ⌝ }
+    {
+        match self {
+            Word::New => Call::New(k),
+            Word::Add => Call::Add(k),
+            Word::Del => Call::Del(k),
+            Word::Has => Call::Has(k),
+            Word::Next => Call::Next(k),
+            Word::Prev => Call::Prev(k),
+            Word::Gap => Call::Gap(k),
+        }
+    }
+}
+
+// A word is found by the line's first four bytes, as one number: one comparison for each word, and no loop.
+pub fn parse(line: &[u8]) -> Line
+    ensures { λ r. ⌜ r ≡ parse (now (line .entry)) ⌝ }
+{
+    if line.len() < 4 {
+        return Line::Unread;
+    }
+    if 64 < line.len() {
+        return Line::Unread;
+    }
+    let head = packed(line[0], line[1], line[2], line[3]);
+    by_head(head, &line[4..])
+}
+
+fn packed(a: u8, b: u8, c: u8, d: u8) -> u32
+    ensures { λ r. ⌜ r ≡ packed a b c d ⌝ }
+{
+    ((a as u32 * 256 + b as u32) * 256 + c as u32) * 256 + d as u32
+}
+
+fn by_head(head: u32, rest: &[u8]) -> Line
+    ensures { λ r. ⌜ r ≡ byHead head (now (rest .entry)) ⌝ }
+{
+    match head {
+        // "new\t", "add\t", "del\t", "has\t", "gap\t"
+        0x6e657709 => numbered(Word::New, rest),
+        0x61646409 => numbered(Word::Add, rest),
+        0x64656c09 => numbered(Word::Del, rest),
+        0x68617309 => numbered(Word::Has, rest),
+        0x67617009 => numbered(Word::Gap, rest),
+        // "next", "prev"
+        0x6e657874 => numbered_after(b'\t', Word::Next, rest),
+        0x70726576 => numbered_after(b'\t', Word::Prev, rest),
+        // "last", "list"
+        0x6c617374 => alone(Call::Last, rest),
+        0x6c697374 => alone(Call::List, rest),
+        // "firs", "audi"
+        0x66697273 => alone_after(b't', Call::First, rest),
+        0x61756469 => alone_after(b't', Call::Audit, rest),
+        _ => Line::Unread,
+    }
+}
+
+fn numbered(word: Word, digits: &[u8]) -> Line
+    ensures { λ r. ⌜ r ≡ lineOf (numbered word (now (digits .entry))) ⌝ }
+{
+    let n = number(digits);
+    match n {
+        Number::Of(k) => Line::Read(word.call(k)),
+        Number::Nothing => Line::Unread,
+    }
+}
+
+fn numbered_after(b: u8, word: Word, rest: &[u8]) -> Line
+    ensures { λ r. ⌜ r ≡ lineOf (numberedAfter b word (now (rest .entry))) ⌝ }
+{
+    if rest.len() == 0 {
+        return Line::Unread;
+    }
+    if rest[0] != b {
+        return Line::Unread;
+    }
+    numbered(word, &rest[1..])
+}
+
+fn alone(call: Call, rest: &[u8]) -> Line
+    ensures { λ r. ⌜ r ≡ lineOf (if-nothing call (now (rest .entry))) ⌝ }
+{
+    if rest.len() == 0 {
+        Line::Read(call)
+    } else {
+        Line::Unread
+    }
+}
+
+fn alone_after(b: u8, call: Call, rest: &[u8]) -> Line
+    ensures { λ r. ⌜ r ≡ lineOf (aloneAfter b call (now (rest .entry))) ⌝ }
+{
+    if rest.len() == 0 {
+        return Line::Unread;
+    }
+    if rest[0] != b {
+        return Line::Unread;
+    }
+    alone(call, &rest[1..])
+}
+
+// "A number is 1 to 10 digits, no leading zero but for 0 itself, at most 4,294,967,295."
+fn number(digits: &[u8]) -> Number
+    ensures { λ r. ⌜ r ≡ asNumber (number (now (digits .entry))) ⌝ }
+{
+    let n = digits.len();
+    if n == 0 {
+        return Number::Nothing;
+    }
+    if 10 < n {
+        return Number::Nothing;
+    }
+    if 1 < n {
+        if digits[0] == b'0' {
+            return Number::Nothing;
+        }
+    }
+    let mut value: u64 = 0;
+    let mut i: usize = 0;
+    while i < n {
+        let d = digits[i];
+        if d < b'0' {
+            return Number::Nothing;
+        }
+        if b'9' < d {
+            return Number::Nothing;
+        }
+        value = value * 10 + (d - b'0') as u64;
+        i += 1;
+    }
+    if 4294967295 < value {
+        return Number::Nothing;
+    }
+    Number::Of(value as u32)
+}

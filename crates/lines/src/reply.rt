@@ -1,0 +1,70 @@
+// What a reply line says of a reply: document 01's number and key for each kind of answer.
+
+use crate::Number;
+use crate::Said;
+use pretree::Answer;
+use pretree::Reply;
+ghost use mathlib.Core.Path.{_≡_};
+ghost use Rattle.pretree.specs.Answer.{numberOf, keyOf};
+ghost use Rattle.lines.specs.Line.{asNumber};
+ghost use Rattle.lines.specs.Render.{saidOf, notRead};
+
+pub fn said(reply: Reply) -> Said
+    ensures { λ r. ⌜ r ≡ saidOf reply ⌝ }
+{
+    let answer = reply.answer;
+    Said {
+        answer: number_of(answer),
+        key: key_of(answer),
+        rows: reply.rows,
+        moved: reply.moved,
+    }
+}
+
+// "9: program only: line not read", a refusal: "counts 0".
+pub fn not_read() -> Said
+    ensures { λ r. ⌜ r ≡ notRead ⌝ }
+{
+    Said {
+        answer: 9,
+        key: Number::Nothing,
+        rows: 0,
+        moved: 0,
+    }
+}
+
+pub fn number_of(answer: Answer) -> u32
+    ensures { λ r. ⌜ r ≡ numberOf answer ⌝ }
+{
+    match answer {
+        Answer::Done => 0,
+        Answer::Word(_) => 0,
+        Answer::Distance(_) => 0,
+        Answer::WrongWidth => 1,
+        Answer::WrongHeader => 2,
+        Answer::WordTooWide => 3,
+        Answer::Damage => 4,
+        Answer::Full => 5,
+        Answer::ShortBuffer => 6,
+        Answer::AlreadyThere => 7,
+        Answer::NoSuchWord => 8,
+    }
+}
+
+fn key_of(answer: Answer) -> Number
+    ensures { λ r. ⌜ r ≡ asNumber (keyOf answer) ⌝ }
+{
+    match answer {
+        Answer::Done => Number::Nothing,
+        Answer::Word(k) => Number::Of(k),
+        Answer::Distance(d) => Number::Of(d),
+        Answer::WrongWidth => Number::Nothing,
+        Answer::WrongHeader => Number::Nothing,
+        Answer::WordTooWide => Number::Nothing,
+        Answer::Damage => Number::Nothing,
+        Answer::Full => Number::Nothing,
+        Answer::ShortBuffer => Number::Nothing,
+        Answer::AlreadyThere => Number::Nothing,
+        Answer::NoSuchWord => Number::Nothing,
+    }
+}
