@@ -4,4 +4,7 @@ pub mod Links
 pub mod Meeting
 pub mod Tested
 pub mod SoundIs
+pub mod Whether
+pub mod Owned
+pub mod Refusals
 pub mod Written

@@ -7,4 +7,5 @@
 --    words, with the bounds W+1, W+2 and 2W+4; rows past the count are zeros.
 pub mod Call
 pub mod Numbers
+pub mod Refusals
 pub mod SoundIs

@@ -1,0 +1,331 @@
+-- What a call writes is in the rows that it may own: "Words past the last whole row, or past that limit, are never changed."
+-- Every row that a table shows is in use, "0 to count−1", also where there is damage beside it, and `add` and `del` write no other row, but
+-- for the new row of `add`.
+use Prim.Native.Nat.{ℕ, zero, suc, _+_, _*_, _-_, _≤_, _<_, pred}
+use mathlib.Core.Path.{_≡_, refl, ap, _∙_}
+use mathlib.Core.Bool.{Bool, true, false, not, _&&_, _||_, false≢true}
+use mathlib.Core.List.{List, [], _∷_, _++_}
+use native.Mathlib.Omega.{arith}
+use lib.Dec.{ltb, eqb}
+use lib.ListN.{length, getD, drop, replicate, set, length-append, length-drop, length-replicate, length-set}
+use lib.Seq.{getD-append-add, getD-drop, getD-set-other}
+use borrow.Author.Tests.{ltb-true, ltb-false, eqb-false, not-false}
+use Rattle.ordered.specs.Such.{if_then_else_, Perhaps, no-such, such, only-if, anything}
+use Rattle.ordered.specs.Word.{Side, left, right, bitOf}
+use Rattle.ordered.specs.Tree.{Tree, none, row, damaged, Entry, part, listing}
+use Rattle.ordered.specs.Way.{Step, Way, Rule, way, joined, following, pushing, down, broken}
+use Rattle.ordered.specs.Reading.{keyAt}
+use Rattle.ordered.specs.Change.{Take, pushed, raised, isThere, ends-at, numberAt, entryAt, above-end, Adding, adding-by, adding, Erasing, erasing-by, erasing}
+use Rattle.ordered.proofs.Parts.{All, none-all, one-all, all-append, If-such, last-such-one}
+use Rattle.ordered.proofs.Ways.{along}
+use Rattle.ordered.proofs.OneTree.{listing-length}
+use Rattle.pretree.specs.declared.Header.{Header}
+use Rattle.pretree.specs.declared.Row.{Row}
+use Rattle.pretree.specs.Table.{capacity, rowAt, link, withKey, withLink, withRow, cleared}
+use Rattle.pretree.specs.Unfold.{judged, linked, unfolded, shown}
+use Rattle.pretree.specs.Reply.{wrong-width, wrong-header, too-wide}
+use Rattle.pretree.specs.Sound.{isSound}
+use Rattle.pretree.specs.Whole.{newTable, listBuffer}
+use Rattle.pretree.specs.Add.{Outcome, taking, hooking, grown, addOutcome}
+use Rattle.pretree.specs.Del.{secondWay, astray, moving, shrunk, delOutcome}
+use Rattle.pretree.proofs.Checks.{right-header}
+use Rattle.demands.specs.Refusals.{SameFrom}
+use Rattle.demands.proofs.Unfolding.{both}
+use Rattle.demands.proofs.Tested.{test-says}
+
+-- every row of the tree is below c
+unfoldable InUse : ℕ → Tree → Type 0
+InUse c none = Unit {0}
+InUse c (row i e l r) = (i < c) × InUse c l × InUse c r
+InUse c damaged = Unit {0}
+
+abbrev Passed : ℕ → Way → Type 0
+Passed c w = All (λ s. s .at < c) (w .passed)
+
+module _ (c : ℕ) where
+  module _ (rows : ℕ → Row) (n : ℕ) (fits : n ≤ c) where
+    row-in-use : (m path low i : ℕ) (e : Entry) (l r : Tree) → InUse c l → InUse c r → InUse c (if judged n m path low i (rows i) then row i e l r else damaged)
+    unfolding InUse
+    row-in-use m path low i e l r u v = by-cases (judged n m path low i (rows i)) refl
+      where
+        by-cases : (b : Bool) → judged n m path low i (rows i) ≡ b → InUse c (if b then row i e l r else damaged)
+        by-cases true passes = let used : i < n = ltb-true i n (both (ltb i n) _ passes .0) in (omega arith, u, v)
+        by-cases false fails = tt
+
+    linked-in-use : (f : ℕ → Tree) → ((k : ℕ) → InUse c (f k)) → (j : ℕ) → InUse c (linked f j)
+    unfolding InUse
+    linked-in-use f u zero = tt
+    linked-in-use f u (suc j) = u (suc j)
+
+    unfolded-in-use : (m path low i : ℕ) → InUse c (unfolded rows n m path low i)
+    unfolding InUse unfolded
+    unfolded-in-use zero path low i = row-in-use zero path low i (record { key = rows i .entry .key }) none none tt tt
+    unfolded-in-use (suc m) path low i =
+        let low′ : ℕ = suc (rows i .entry .key) in
+        let below : Side → Tree = λ s. linked (unfolded rows n m (path * 2 + bitOf s) low′) (link (rows i) s) in
+        let used : (s : Side) → InUse c (below s) =
+        λ s. linked-in-use (unfolded rows n m (path * 2 + bitOf s) low′) (unfolded-in-use m (path * 2 + bitOf s) low′) (link (rows i) s)
+        in
+        row-in-use (suc m) path low i (record { key = rows i .entry .key }) (below left) (below right) (used left) (used right)
+
+  shown-in-use : (h : Header) (table : List ℕ) → h .count ≤ c → InUse c (shown h table)
+  unfolding shown InUse
+  shown-in-use h table fits = by-cases (eqb (h .count) 0)
+    where
+      by-cases : (b : Bool) → InUse c (if b then none else unfolded (rowAt table) (h .count) (h .width) 0 0 0)
+      by-cases true = tt
+      by-cases false = unfolded-in-use (rowAt table) (h .count) fits (h .width) 0 0 0
+
+  part-in-use : (s : Side) (i : ℕ) (e : Entry) (l r : Tree) → InUse c (row i e l r) → InUse c (part s l r)
+  unfolding InUse
+  part-in-use left i e l r u = u .1
+  part-in-use right i e l r u = u .2
+
+  -- so every row that a way passes, and its end, is below c
+  way-in-use : (f : Rule) (m : ℕ) (t : Tree) → InUse c t → Passed c (way f m t) × InUse c (way f m t .end)
+  unfolding InUse
+  way-in-use f =
+      along f (λ m t w. InUse c t → Passed c w × InUse c (w .end)) (λ m t ends u. (none-all, u))
+      (λ m i e l r s says rest u.
+      let below = rest (part-in-use s i e l r u) in
+      (one-all (u .0) (below .0), below .1))
+
+  -- a way that ends at a key ends at a row
+  ended-in-use : (k : ℕ) (t : Tree) → InUse c t → isThere (only-if (eqb k) (keyAt t)) ≡ true → 0 < c
+  unfolding InUse
+  ended-in-use k none u there = absurd (false≢true there)
+  ended-in-use k (row i e l r) u there = omega (arith, u .0)
+  ended-in-use k damaged u there = absurd (false≢true there)
+
+  number-in-use : (t : Tree) → 0 < c → InUse c t → numberAt t < c
+  unfolding InUse
+  number-in-use none some u = some
+  number-in-use (row i e l r) some u = u .0
+  number-in-use damaged some u = some
+
+  abbrev Taken : List Take → Type 0
+  Taken = All (λ t. t .at < c)
+
+  abbrev Hooked : Perhaps Step → Type 0
+  Hooked = If-such (λ s. s .at < c)
+
+  pushed-in-use : (e : Entry) {ss : List Step} → All (λ s. s .at < c) ss → Taken (pushed e ss)
+  unfolding pushed
+  pushed-in-use e none-all = none-all
+  pushed-in-use e (one-all {x} u us) = one-all u (pushed-in-use (x .entry) us)
+
+  raised-in-use : (hole : Entry) {ss : List Step} → All (λ s. s .at < c) ss → Taken (raised ss hole)
+  unfolding raised
+  raised-in-use hole none-all = none-all
+  raised-in-use hole (one-all u none-all) = one-all u none-all
+  raised-in-use hole (one-all u (one-all v us)) = one-all u (raised-in-use hole (one-all v us))
+
+  joined-in-use : (w v : Way) → Passed c w → Passed c v → Hooked (above-end (joined w v))
+  unfolding joined
+  joined-in-use w v us vs = last-such-one anything (all-append us vs)
+
+  adding-in-use : (m k : ℕ) (t : Tree) → InUse c t → Taken (adding m k t .takes) × Hooked (adding m k t .hook)
+  unfolding adding
+  adding-in-use m k t u = by-cases (ends-at k w)
+    where
+      w : Way
+      w = way (following k) m t
+
+      push : Way
+      push = way pushing (w .bits) (w .end)
+
+      by-cases : (b : Bool) → Taken (adding-by k w push (joined w push) b .takes) × Hooked (adding-by k w push (joined w push) b .hook)
+      by-cases true = (none-all, tt)
+      by-cases false =
+          let us = way-in-use (following k) m t u in
+          let vs = way-in-use pushing (w .bits) (w .end) (us .1) in
+          (pushed-in-use (record { key = k }) (vs .0), joined-in-use w push (us .0) (vs .0))
+
+  -- the rows that an erase writes
+  record Erased (e : Erasing) : Type 0 where
+    some : 0 < c
+    takes : Taken (e .takes)
+    hook : Hooked (e .hook)
+    hole : e .hole < c
+
+  erasing-in-use : (m k : ℕ) (t : Tree) → InUse c t → erasing m k t .present ≡ true → Erased (erasing m k t)
+  unfolding erasing
+  erasing-in-use m k t u = by-cases (ends-at k w) refl
+    where
+      w : Way
+      w = way (following k) m t
+
+      stretch : Way
+      stretch = way (down left) (w .bits) (w .end)
+
+      by-cases : (b : Bool) → ends-at k w ≡ b → erasing-by w stretch (joined w stretch) b .present ≡ true → Erased (erasing-by w stretch (joined w stretch) b)
+      by-cases false absent there = absurd (false≢true there)
+      by-cases true ends there =
+          let us = way-in-use (following k) m t u in
+          let vs = way-in-use (down left) (w .bits) (w .end) (us .1) in
+          let some : 0 < c = ended-in-use k (w .end) (us .1) ends in
+          record {
+            some = some;
+            takes = raised-in-use (entryAt (stretch .end)) (vs .0);
+            hook = joined-in-use w stretch (us .0) (vs .0);
+            hole = number-in-use (stretch .end) some (vs .1);
+          }
+
+module _ (n : ℕ) where
+  pub same-all : {words : List ℕ} → SameFrom n words words
+  same-all = record { same-length = refl; same-words = λ i past. refl }
+
+  same-twice : {a b d : List ℕ} → SameFrom n a b → SameFrom n b d → SameFrom n a d
+  same-twice x y =
+      record { same-length = y .same-length ∙ x .same-length; same-words = λ i past. y .same-words i past ∙ x .same-words i past }
+
+  same-set : (words : List ℕ) (i v : ℕ) → i < n → SameFrom n words (set words i v)
+  same-set words i v owned =
+      record { same-length = length-set words i v; same-words = λ j past. getD-set-other words i j v 0 (λ same. omega arith) }
+
+-- the writes to a row below c change no word from 3c on
+module _ (c : ℕ) where
+  abbrev Kept : List ℕ → List ℕ → Type 0
+  Kept = SameFrom (3 * c)
+
+  key-kept : (i k : ℕ) (table : List ℕ) → i < c → Kept table (withKey i k table)
+  unfolding withKey
+  key-kept i k table owned = same-set (3 * c) table (3 * i) k (omega arith)
+
+  link-kept : (i : ℕ) (s : Side) (j : ℕ) (table : List ℕ) → i < c → Kept table (withLink i s j table)
+  unfolding withLink
+  link-kept i left j table owned = same-set (3 * c) table (3 * i + 1 + 0) j (omega arith)
+  link-kept i right j table owned = same-set (3 * c) table (3 * i + 1 + 1) j (omega arith)
+
+  row-kept : (i : ℕ) (r : Row) (table : List ℕ) → i < c → Kept table (withRow i r table)
+  unfolding withRow
+  row-kept i r table owned =
+      let keyed : List ℕ = set table (3 * i) (r .entry .key) in
+      let half : List ℕ = set keyed (suc (3 * i)) (r .left) in
+      same-twice (3 * c) (same-set (3 * c) table (3 * i) (r .entry .key) (omega arith))
+      (same-twice (3 * c) (same-set (3 * c) keyed (suc (3 * i)) (r .left) (omega arith))
+      (same-set (3 * c) half (suc (suc (3 * i))) (r .right) (omega arith)))
+
+  taking-kept : {ts : List Take} (table : List ℕ) → Taken c ts → Kept table (taking ts table)
+  unfolding taking
+  taking-kept table none-all = same-all (3 * c)
+  taking-kept table (one-all {x} u us) =
+      same-twice (3 * c) (key-kept (x .at) (x .entry .key) table u) (taking-kept (withKey (x .at) (x .entry .key) table) us)
+
+  hooking-kept : (p : Perhaps Step) (i : ℕ) (table : List ℕ) → Hooked c p → Kept table (hooking p i table)
+  hooking-kept no-such i table u = same-all (3 * c)
+  hooking-kept (such s) i table u = link-kept (s .at) (s .turn) i table u
+
+  grown-kept : (count : ℕ) (a : Adding) (table : List ℕ) → count < c → Taken c (a .takes) → Hooked c (a .hook) → Kept table (grown count a table)
+  unfolding grown
+  grown-kept count a table room takes hook =
+      let taken : List ℕ = taking (a .takes) table in
+      same-twice (3 * c) (taking-kept table takes)
+      (same-twice (3 * c) (hooking-kept (a .hook) count taken hook)
+      (row-kept count (record { entry = record { key = a .new-entry .key }; left = 0; right = 0 }) (hooking (a .hook) count taken) room))
+
+  shrunk-kept : (last : ℕ) (e : Erasing) (second : Way) (moves : Bool) (table : List ℕ)
+      → last < c → Erased c e → Hooked c (above-end second) → Kept table (shrunk last e second moves table)
+  unfolding shrunk moving
+  shrunk-kept last e second moves table owned erased hook =
+      same-twice (3 * c) (taking-kept table (erased .takes))
+      (same-twice (3 * c) (hooking-kept (e .hook) 0 taken (erased .hook))
+      (same-twice (3 * c) (by-cases moves) (row-kept last cleared (if moves then moved else unlinked) owned)))
+    where
+      taken : List ℕ
+      taken = taking (e .takes) table
+
+      unlinked : List ℕ
+      unlinked = hooking (e .hook) 0 taken
+
+      into-hole : List ℕ
+      into-hole = withRow (e .hole) (rowAt unlinked last) unlinked
+
+      moved : List ℕ
+      moved = hooking (above-end second) (e .hole) into-hole
+
+      by-cases : (b : Bool) → Kept unlinked (if b then moved else unlinked)
+      by-cases true =
+          same-twice (3 * c) (row-kept (e .hole) (rowAt unlinked last) unlinked (erased .hole)) (hooking-kept (above-end second) (e .hole) into-hole hook)
+      by-cases false = same-all (3 * c)
+
+-- what a test says may be used on its side
+by-test : {X : Type 0} (P : X → Type 0) (t : Bool) {x y : X} → (t ≡ true → P x) → (t ≡ false → P y) → P (if t then x else y)
+by-test P true if-so if-not = if-so refl
+by-test P false if-so if-not = if-not refl
+
+module _ (h : Header) (table : List ℕ) (k : ℕ) where
+  abbrev Keeps : Outcome → Type 0
+  Keeps o = Kept (capacity table) table (o .table)
+
+  pub add-kept : Keeps (addOutcome h table k)
+  unfolding addOutcome
+  add-kept =
+      let c : ℕ = capacity table in
+      let a : Adding = adding (h .width) k (shown h table) in
+      let same : Kept c table table = same-all (3 * c) in
+      by-test Keeps (wrong-header h table) (λ e. same)
+      (λ right. by-test Keeps (too-wide h k) (λ e. same)
+      (λ narrow. by-test Keeps (broken (a .rows-read)) (λ e. same)
+      (λ whole. by-test Keeps (a .present) (λ e. same)
+      (λ absent. by-test Keeps (eqb (h .count) c) (λ e. same)
+      (λ room.
+      let fits = right-header h table right .has-room in
+      let not-full : h .count ≡ c → ⊥ = eqb-false (h .count) c room in
+      let used = adding-in-use c (h .width) k (shown h table) (shown-in-use c h table fits) in
+      grown-kept c (h .count) a table (omega arith) (used .0) (used .1))))))
+
+  pub del-kept : Keeps (delOutcome h table k)
+  unfolding delOutcome secondWay
+  del-kept =
+      let c : ℕ = capacity table in
+      let e : Erasing = erasing (h .width) k (shown h table) in
+      let last : ℕ = pred (h .count) in
+      let moves : Bool = not (eqb (e .hole) last) in
+      let second : Way = secondWay h table in
+      let same : Kept c table table = same-all (3 * c) in
+      by-test Keeps (wrong-header h table) (λ e. same)
+      (λ right. by-test Keeps (too-wide h k) (λ e. same)
+      (λ narrow. by-test Keeps (broken (e .rows-read)) (λ e. same)
+      (λ whole. by-test Keeps (not (e .present)) (λ e. same)
+      (λ there. by-test Keeps (moves && (broken second || astray h table second)) (λ e. same)
+      (λ led.
+      let fits = right-header h table right .has-room in
+      let present : e .present ≡ true = not-false (e .present) there in
+      let some = erasing-in-use (h .count) (h .width) k (shown h table) (shown-in-use (h .count) h table (omega arith)) present .some in
+      let used : InUse c (shown h table) = shown-in-use c h table fits in
+      let second-used = way-in-use c (following (rowAt table last .entry .key)) (h .width) (shown h table) used in
+      shrunk-kept c last e second moves table (omega arith) (erasing-in-use c (h .width) k (shown h table) used present)
+      (last-such-one anything (second-used .0)))))))
+
+-- a front of n words written anew
+front-kept : (n : ℕ) (front words : List ℕ) → length front ≡ n → n ≤ length words → SameFrom n words (front ++ drop n words)
+front-kept n front words long room =
+    record {
+      same-length = length-append front (drop n words) ∙ rw length-drop (omega arith);
+      same-words =
+          λ i past.
+          let at : i ≡ length front + (i - n) = omega arith in
+          let back : n + (i - n) ≡ i = omega arith in
+          ap (λ j. getD (front ++ drop n words) j 0) at ∙ getD-append-add front (drop n words) (i - n) 0 ∙ getD-drop n words (i - n) 0
+          ∙ ap (λ j. getD words j 0) back;
+    }
+
+pub new-kept : (table : List ℕ) (W : ℕ) → SameFrom (3 * capacity table) table (newTable table W)
+unfolding newTable capacity
+new-kept table W =
+    let words : ℕ = 3 * capacity table in
+    by-test (SameFrom words table) (wrong-width W) (λ e. same-all words)
+    (λ right. front-kept words (replicate words 0) table (length-replicate words 0) (omega arith))
+
+pub list-kept : (h : Header) (table buffer : List ℕ) → SameFrom (h .count) buffer (listBuffer h table buffer)
+unfolding listBuffer
+list-kept h table buffer =
+    let P : List ℕ → Type 0 = SameFrom (h .count) buffer in
+    by-test P (wrong-header h table) (λ e. same-all (h .count))
+    (λ right. by-test P (isSound h table)
+    (λ sound. by-test P (ltb (length buffer) (h .count)) (λ e. same-all (h .count))
+    (λ room.
+    front-kept (h .count) (listing (shown h table)) buffer (listing-length (shown h table) ∙ test-says h table sound .1)
+    (ltb-false (length buffer) (h .count) room)))
+    (λ e. same-all (h .count)))
