@@ -5,3 +5,5 @@ pub mod Meeting
 pub mod Tested
 pub mod SoundIs
 pub mod Written
+pub mod SecondWay
+pub mod RowsRead

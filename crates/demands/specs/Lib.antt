@@ -8,3 +8,4 @@
 pub mod Call
 pub mod Numbers
 pub mod SoundIs
+pub mod RowsRead
