@@ -7,3 +7,4 @@ pub mod SoundIs
 pub mod Written
 pub mod SecondWay
 pub mod RowsRead
+pub mod Reached

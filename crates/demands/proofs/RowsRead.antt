@@ -1,6 +1,6 @@
 -- Demand 3: the rows that a call reports are those of its ways over the PreTree of the present words, and so many at most.
 -- Document 01: "The rows-read number in each reply equals the length of the defined way, bounded by W+1 or W+2."
-use Prim.Native.Nat.{ℕ, zero, suc, pred, _+_, _*_, _/_, _^_, _≤_, _<_}
+use Prim.Native.Nat.{ℕ, suc, pred, _+_, _/_, _^_, _≤_, _<_}
 use mathlib.Core.Path.{_≡_, refl, sym, ap, _∙_}
 use mathlib.Core.Bool.{Bool, true, false, not, _&&_, _||_, false≢true}
 use mathlib.Core.List.{List, [], _∷_}
@@ -33,7 +33,7 @@ use Rattle.pretree.specs.Add.{Outcome, addOutcome}
 use Rattle.pretree.specs.Del.{secondWay, astray, delOutcome}
 use Rattle.pretree.specs.Sound.{isSound}
 use Rattle.pretree.specs.Whole.{newReply, auditReply, listReply}
-use Rattle.demands.specs.Call.{Call, new, add, del, has, next, prev, gap, first, last, audit, list, after}
+use Rattle.demands.specs.Call.{new, add, del, has, next, prev, gap, first, last, audit, list, after}
 use Rattle.demands.specs.SoundIs.{HoldsSet}
 use Rattle.demands.specs.RowsRead.{rowsOver, moves, movedOver, refusedOver, isRefusal, Reports, RowsExact, RowsAlike, mostRows, mostMoved, AtMost, RowsBounded}
 use Rattle.demands.proofs.Tested.{shown-proper}

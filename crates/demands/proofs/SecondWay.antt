@@ -1,10 +1,10 @@
 -- On a table that holds a set the second way of a `del` never goes astray.
 -- Document 01: damage is "the second way of `del` doesn't end at row count−1 with its key".
 use Prim.Native.Nat.{ℕ, zero, suc, pred, _+_, _*_, _<_}
-use mathlib.Core.Path.{_≡_, refl, sym, ap, _∙_}
+use mathlib.Core.Path.{_≡_, refl, _∙_}
 use mathlib.Core.Logic.{_⊎_, inl, inr}
 use mathlib.Core.Bool.{Bool, true, false}
-use mathlib.Core.List.{List, [], _∷_, _++_}
+use mathlib.Core.List.{List, [], _∷_}
 use mathlib.Core.List.{List·Memᴰ·head, List·Memᴰ·tail, List·Memᴰ·append-cases, List·Memᴰ·eq-of-singleton, List·Memᴰ·not-nil}
 use native.Mathlib.Omega.{arith}
 use lib.Dec.{ltb, eqb}
@@ -12,7 +12,7 @@ use borrow.Author.Tests.{eqb-true, lt-ltb, le-ltb, eq-eqb, ne-eqb}
 use Rattle.ordered.specs.Such.{if_then_else_, such}
 use Rattle.ordered.specs.Word.{Side, left, right, bitOf, side}
 use Rattle.ordered.specs.Said.{_∈_}
-use Rattle.ordered.specs.Tree.{Tree, none, row, part, intact}
+use Rattle.ordered.specs.Tree.{Tree, intact}
 use Rattle.ordered.specs.Proper.{Fitting}
 use Rattle.ordered.specs.Way.{way, following}
 use Rattle.ordered.specs.Reading.{keyAt}
@@ -25,7 +25,7 @@ use Rattle.pretree.specs.Unfold.{unfolded, shown}
 use Rattle.pretree.specs.Del.{secondWay, astray}
 use Rattle.demands.specs.Numbers.{numbers, often}
 use Rattle.demands.specs.SoundIs.{HoldsSet}
-use Rattle.demands.proofs.Unfolding.{part-of, along-link, key, row-with, hanging, Opened, opened}
+use Rattle.demands.proofs.Unfolding.{part-of, along-link, key, row-with, hanging, opened}
 use Rattle.demands.proofs.SoundIs.{tree-intact}
 
 -- row j may stand in t by its key, and the way of its key ends at it

@@ -9,3 +9,4 @@ pub mod Call
 pub mod Numbers
 pub mod SoundIs
 pub mod RowsRead
+pub mod Reached

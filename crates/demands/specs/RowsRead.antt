@@ -2,7 +2,7 @@
 -- Document 01: "A row is read when its key is looked at; each row on a way counts once."
 use Prim.Native.Nat.{ℕ, pred, _+_, _*_, _^_, _≤_}
 use mathlib.Core.Path.{_≡_}
-use mathlib.Core.Bool.{Bool, true, false, not, _&&_, _||_}
+use mathlib.Core.Bool.{Bool, false, not, _&&_, _||_}
 use mathlib.Core.List.{List}
 use lib.Dec.{ltb, leb, eqb}
 use lib.ListN.{length}
