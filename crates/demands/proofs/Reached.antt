@@ -1,14 +1,14 @@
 -- The bounds of demand 3 are reached at every width: the proofs of specs/Reached.antt, by the trees of its two sets.
-use Prim.Native.Nat.{ℕ, zero, suc, _+_, _*_, _-_, _^_, _≤_, _<_}
+use Prim.Native.Nat.{ℕ, zero, suc, min, _+_, _*_, _-_, _/_, _^_, _≤_, _<_}
 use mathlib.Core.Path.{_≡_, refl, sym, ap, _∙_}
 use mathlib.Core.Bool.{Bool, true, false}
-use mathlib.Core.List.{List, append-nil}
+use mathlib.Core.List.{List, [], _++_, append-nil}
 use native.Mathlib.Nat.{add-mul, mul-assoc, one-mul, zero-mul, pow-succ'}
 use native.Mathlib.Omega.{arith}
-use lib.Dec.{ltb}
-use lib.Pow.{pow-pos, pow-mono, shl-shr, high, ones-lt}
-use lib.ListN.{length}
-use borrow.Author.Tests.{lt-ltb, le-ltb, le-leb}
+use lib.Dec.{ltb, leb}
+use lib.Pow.{pow-pos, pow-mono, pow-lt, shl-shr, high, ones-lt}
+use lib.ListN.{length, length-append}
+use borrow.Author.Tests.{lt-ltb, le-ltb, le-leb, lt-leb, ne-eqb}
 use Rattle.ordered.specs.Such.{Perhaps, no-such, such, only-if, last-such}
 use Rattle.ordered.specs.Word.{Side, left, right, side}
 use Rattle.ordered.specs.Tree.{Tree, none, row, exists, listing, unnumbered, treeOf}
@@ -19,9 +19,15 @@ use Rattle.ordered.specs.Change.{ends-at, adding-by, adding, erasing-by, erasin
 use Rattle.ordered.proofs.Bits.{on-root-path, whole-path, side-of-part}
 use Rattle.ordered.proofs.Parts.{each-of-all}
 use Rattle.ordered.proofs.OneTree.{keys-fit, keys-rise, one-tree}
-use Rattle.demands.specs.RowsRead.{rowsOver}
-use Rattle.demands.specs.Reached.{chain, hooked-chain, SetOf, Reached, ReachedBeyond}
+use Rattle.pretree.specs.declared.Header.{Header}
+use Rattle.pretree.specs.Table.{capacity}
+use Rattle.pretree.specs.Reply.{wrong-header}
+use Rattle.demands.specs.Call.{Call, del, has, next, prev, last}
+use Rattle.demands.specs.RowsRead.{rowsOver, refusedOver}
+use Rattle.demands.specs.Reached.{chain, parted-chain, SetOf, Reached, ReachedBeyond, ReadIn, ReachedIn}
 use Rattle.demands.proofs.Unfolding.{none-proper}
+use Rattle.demands.proofs.Written.{every-set-has-rows}
+use Rattle.demands.proofs.RowsRead.{rows-exact}
 
 -- the tree of a chain
 ladder : ℕ → ℕ → Tree
@@ -181,7 +187,7 @@ child-read : (w : Way) (s : Step) {q : Perhaps ℕ} {p : Perhaps Step} → q ≡
 unfolding rowsOf
 child-read w s none-greater deepest = rw (none-greater, deepest) (omega arith)
 
--- the tree of a hooked chain, with n + 2 bits
+-- the tree of a parted chain, with n + 2 bits
 module _ (n : ℕ) where
   abbrev lone : Tree
   lone = row 0 (record { key = 2 ^ suc n }) none none
@@ -189,8 +195,8 @@ module _ (n : ℕ) where
   abbrev low-part : Tree
   low-part = row 0 (record { key = 1 }) none (ladder n 1)
 
-  abbrev hooked : Tree
-  hooked = row 0 (record { key = 0 }) low-part lone
+  abbrev parted : Tree
+  parted = row 0 (record { key = 0 }) low-part lone
 
   less-one : suc (suc n) - 1 ≡ suc n
   less-one = omega arith
@@ -198,17 +204,17 @@ module _ (n : ℕ) where
   less-two : suc (suc n) - 2 ≡ n
   less-two = omega arith
 
-  hooked-lists : listing hooked ≡ hooked-chain (suc (suc n))
-  unfolding listing hooked-chain
-  hooked-lists = rw (less-two, less-one, ladder-listing n 1)
+  parted-lists : listing parted ≡ parted-chain (suc (suc n))
+  unfolding listing parted-chain
+  parted-lists = rw (less-two, less-one, ladder-listing n 1)
 
-  hooked-unnumbered : unnumbered hooked ≡ hooked
+  parted-unnumbered : unnumbered parted ≡ parted
   unfolding unnumbered
-  hooked-unnumbered = rw (ladder-unnumbered n 1)
+  parted-unnumbered = rw (ladder-unnumbered n 1)
 
-  hooked-proper : 1 ≤ n → Proper (suc (suc n)) 0 0 hooked
+  parted-proper : 1 ≤ n → Proper (suc (suc n)) 0 0 parted
   unfolding Proper
-  hooked-proper some =
+  parted-proper some =
       let two : 2 ^ 1 ≤ 2 ^ n = pow-mono some in
       record {
         key-fits = record { not-below = omega arith; on-path = on-root-path (suc (suc n)) 0 .0 (pow-pos (suc (suc n))) };
@@ -250,13 +256,13 @@ module _ (n : ℕ) where
       let r = rightmost (top n 1) (down right) (down-right (top n 1)) n 1 refl in
       rw (ladder-exists n 1) (rows-passing low-step (way (down right) n (ladder n 1)) ∙ omega (arith, rightmost-rows r))
 
-  prev-way : way (following (2 ^ suc n)) (suc (suc n)) hooked ≡ passing (root-step right) (ending (suc n) lone)
+  prev-way : way (following (2 ^ suc n)) (suc (suc n)) parted ≡ passing (root-step right) (ending (suc n) lone)
   unfolding way following
   prev-way = rw (lt-ltb 0 (2 ^ suc n) (pow-pos (suc n)), right-side, le-ltb (2 ^ suc n) (2 ^ suc n) (omega arith))
 
-  prev-hooked : rowsOf (prev-over (suc (suc n)) (2 ^ suc n) hooked .ways) ≡ suc (suc n) + 2
+  prev-parted : rowsOf (prev-over (suc (suc n)) (2 ^ suc n) parted .ways) ≡ suc (suc n) + 2
   unfolding prev-over rowsOf rows last-such
-  prev-hooked =
+  prev-parted =
       rw (prev-way, le-ltb (2 ^ suc n) (2 ^ suc n) (omega arith), lt-ltb 0 (2 ^ suc n) (pow-pos (suc n))) (omega (arith, low-rows))
 
   abbrev last-word : ℕ
@@ -265,7 +271,7 @@ module _ (n : ℕ) where
   abbrev chain-way : Way
   chain-way = way (passing-equal last-word) n (ladder n 1)
 
-  next-way : way (passing-equal last-word) (suc (suc n)) hooked ≡ passing (root-step left) (passing low-step chain-way)
+  next-way : way (passing-equal last-word) (suc (suc n)) parted ≡ passing (root-step left) (passing low-step chain-way)
   unfolding way passing-equal
   next-way =
       rw (
@@ -279,9 +285,9 @@ module _ (n : ℕ) where
   unfolding way staying rows
   lone-row = refl
 
-  next-hooked : rowsOf (next-over (suc (suc n)) last-word hooked .ways) ≡ suc (suc n) + 2
+  next-parted : rowsOf (next-over (suc (suc n)) last-word parted .ways) ≡ suc (suc n) + 2
   unfolding next-over last-such
-  next-hooked =
+  next-parted =
       let w : Way = passing (root-step left) (passing low-step chain-way) in
       let r : Rightmost n last-word chain-way = rightmost last-word (passing-equal last-word) (passing-right last-word) n 1 last-left in
       let none-greater : only-if (ltb last-word) (keyAt (w .end)) ≡ no-such = rw (r .ends, le-ltb last-word last-word (omega arith)) in
@@ -290,18 +296,74 @@ module _ (n : ℕ) where
       (child-read w (root-step left) none-greater deepest
       ∙ omega (arith, rows-passing (root-step left) (passing low-step chain-way), rows-passing low-step chain-way, rightmost-rows r, lone-row))
 
-  hooked-reached : 1 ≤ n → ReachedBeyond (suc (suc n))
+  parted-reached : 1 ≤ n → ReachedBeyond (suc (suc n))
   unfolding rowsOver
-  hooked-reached some =
+  parted-reached some =
       let W : ℕ = suc (suc n) in
-      let tree : treeOf W (hooked-chain W) ≡ hooked = its-tree W hooked (hooked-chain W) (hooked-proper some) hooked-lists hooked-unnumbered in
+      let tree : treeOf W (parted-chain W) ≡ parted = its-tree W parted (parted-chain W) (parted-proper some) parted-lists parted-unnumbered in
       record {
-        a-set = its-set W hooked (hooked-chain W) (hooked-proper some) hooked-lists;
-        next-reads = rw (tree, less-one) next-hooked;
-        prev-reads = rw (tree, less-one) prev-hooked;
+        a-set = its-set W parted (parted-chain W) (parted-proper some) parted-lists;
+        next-reads = rw (tree, less-one) next-parted;
+        prev-reads = rw (tree, less-one) prev-parted;
       }
 
 pub reached-beyond : (W : ℕ) → 3 ≤ W → ReachedBeyond W
 reached-beyond zero three = absurd (omega arith)
 reached-beyond (suc zero) three = absurd (omega arith)
-reached-beyond (suc (suc n)) three = hooked-reached n (omega arith)
+reached-beyond (suc (suc n)) three = parted-reached n (omega arith)
+
+chain-length : (m p : ℕ) → length (chain m p) ≡ m + 1
+unfolding chain
+chain-length zero p = refl
+chain-length (suc m) p = omega (arith, chain-length m (p * 2 + 1))
+
+parted-length : (W : ℕ) → 3 ≤ W → length (parted-chain W) ≡ W + 2
+unfolding parted-chain
+parted-length W three = rw length-append (omega (arith, chain-length (W - 2) 1))
+
+-- the rows of a set are a table with a right header, in which a call that is not refused reads the rows of its ways
+module _ (W : ℕ) (some : 1 ≤ W) (fits : W ≤ 32) (S : List ℕ) (few : length S ≤ 65535) (set : SetOf W S) where
+  right-header : (table : List ℕ) → length table ≡ 3 * length S → wrong-header (record { width = W; count = length S }) table ≡ false
+  unfolding wrong-header capacity
+  right-header table as-many =
+      rw (
+        ne-eqb W 0 (λ e. omega arith),
+        le-ltb 32 W fits,
+        le-ltb (min (length table / 3) 65535) (length S) (omega arith),
+      )
+
+  read-in : (c : Call) → ((room space : ℕ) → refusedOver c W S room space ≡ false) → ReadIn W c (rowsOver c W S)
+  read-in c accepted =
+      let h : Header = record { width = W; count = length S } in
+      let r = every-set-has-rows W S [] (set .increasing) (set .below) in
+      let table : List ℕ = r .rows ++ [] in
+      let right : wrong-header h table ≡ false = right-header table (rw append-nil (r .as-many)) in
+      record {
+        count = length S;
+        table = table;
+        right = right;
+        reads = λ buffer. rows-exact c h table buffer S right (r .held) .rows-read ∙ rw (accepted (capacity table) (length buffer));
+      }
+
+pub reached-in : (W : ℕ) → 1 ≤ W → W ≤ 32 → ReachedIn W
+unfolding refusedOver
+reached-in W some fits =
+    let on-chain = read-in W some fits (chain W 0) (omega (arith, chain-length W 0)) (reached W .a-set) in
+    let small : leb (2 ^ W) (2 ^ W - 1) ≡ false = lt-leb (2 ^ W) (2 ^ W - 1) (ones-lt W) in
+    let half : 2 ^ (W - 1) < 2 ^ W = pow-lt (omega arith) in
+    record {
+      has-reads = rw (reached W .has-reads) at (on-chain (has (2 ^ W - 1)) (λ room space. small));
+      del-reads = rw (reached W .del-reads) at (on-chain (del (2 ^ W - 1)) (λ room space. small));
+      last-reads = rw (reached W .last-reads) at (on-chain last (λ room space. refl));
+      next-reads =
+          λ three.
+          rw (reached-beyond W three .next-reads) at
+          (on-parted three (next (2 ^ (W - 1) - 1)) (λ room space. lt-leb (2 ^ W) (2 ^ (W - 1) - 1) (omega arith)));
+      prev-reads =
+          λ three.
+          rw (reached-beyond W three .prev-reads) at (on-parted three (prev (2 ^ (W - 1))) (λ room space. lt-leb (2 ^ W) (2 ^ (W - 1)) half));
+    }
+  where
+    on-parted : 3 ≤ W → (c : Call) → ((room space : ℕ) → refusedOver c W (parted-chain W) room space ≡ false)
+        → ReadIn W c (rowsOver c W (parted-chain W))
+    on-parted three = read-in W some fits (parted-chain W) (omega (arith, parted-length W three)) (reached-beyond W three .a-set)
