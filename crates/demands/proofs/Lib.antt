@@ -8,3 +8,6 @@ pub mod Whether
 pub mod Owned
 pub mod Refusals
 pub mod Written
+pub mod SecondWay
+pub mod RowsRead
+pub mod Reached

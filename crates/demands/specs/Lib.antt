@@ -9,3 +9,5 @@ pub mod Call
 pub mod Numbers
 pub mod Refusals
 pub mod SoundIs
+pub mod RowsRead
+pub mod Reached

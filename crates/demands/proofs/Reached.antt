@@ -1,0 +1,369 @@
+-- The bounds of demand 3 are reached at every width: the proofs of specs/Reached.antt, by the trees of its two sets.
+use Prim.Native.Nat.{ℕ, zero, suc, min, _+_, _*_, _-_, _/_, _^_, _≤_, _<_}
+use mathlib.Core.Path.{_≡_, refl, sym, ap, _∙_}
+use mathlib.Core.Bool.{Bool, true, false}
+use mathlib.Core.List.{List, [], _++_, append-nil}
+use native.Mathlib.Nat.{add-mul, mul-assoc, one-mul, zero-mul, pow-succ'}
+use native.Mathlib.Omega.{arith}
+use lib.Dec.{ltb, leb}
+use lib.Pow.{pow-pos, pow-mono, pow-lt, shl-shr, high, ones-lt}
+use lib.ListN.{length, length-append}
+use borrow.Author.Tests.{lt-ltb, le-ltb, le-leb, lt-leb, ne-eqb}
+use Rattle.ordered.specs.Such.{Perhaps, no-such, such, only-if, last-such}
+use Rattle.ordered.specs.Word.{Side, left, right, side}
+use Rattle.ordered.specs.Tree.{Tree, none, row, exists, listing, unnumbered, treeOf}
+use Rattle.ordered.specs.Proper.{Proper}
+use Rattle.ordered.specs.Way.{Way, Step, Rule, to, ending, passing, way, rows, joined, following, passing-equal, pushing, down, staying}
+use Rattle.ordered.specs.Reading.{rowsOf, keyAt, right-left-aside, next-by, has as has-over, next as next-over, prev as prev-over, last as last-over}
+use Rattle.ordered.specs.Change.{ends-at, adding-by, adding, erasing-by, erasing}
+use Rattle.ordered.proofs.Bits.{on-root-path, whole-path, side-of-part}
+use Rattle.ordered.proofs.Parts.{each-of-all}
+use Rattle.ordered.proofs.OneTree.{keys-fit, keys-rise, one-tree}
+use Rattle.pretree.specs.declared.Header.{Header}
+use Rattle.pretree.specs.Table.{capacity}
+use Rattle.pretree.specs.Reply.{wrong-header}
+use Rattle.demands.specs.Call.{Call, del, has, next, prev, last}
+use Rattle.demands.specs.RowsRead.{rowsOver, refusedOver}
+use Rattle.demands.specs.Reached.{chain, parted-chain, SetOf, Reached, ReachedBeyond, ReadIn, ReachedIn}
+use Rattle.demands.proofs.Unfolding.{none-proper}
+use Rattle.demands.proofs.Written.{every-set-has-rows}
+use Rattle.demands.proofs.RowsRead.{rows-exact}
+
+-- the tree of a chain
+ladder : ℕ → ℕ → Tree
+ladder zero p = row 0 (record { key = p }) none none
+ladder (suc m) p = row 0 (record { key = p * 2 ^ suc m }) none (ladder m (p * 2 + 1))
+
+ladder-listing : (m p : ℕ) → listing (ladder m p) ≡ chain m p
+unfolding ladder listing chain
+ladder-listing zero p = refl
+ladder-listing (suc m) p = rw (ladder-listing m (p * 2 + 1))
+
+ladder-unnumbered : (m p : ℕ) → unnumbered (ladder m p) ≡ ladder m p
+unfolding ladder unnumbered
+ladder-unnumbered zero p = refl
+ladder-unnumbered (suc m) p = rw (ladder-unnumbered m (p * 2 + 1))
+
+ladder-exists : (m p : ℕ) → exists (ladder m p) ≡ true
+unfolding ladder
+ladder-exists zero p = refl
+ladder-exists (suc m) p = refl
+
+-- a path with one bit 1 more, and then zeros
+one-more : (m p : ℕ) → (p * 2 + 1) * 2 ^ m ≡ p * 2 ^ suc m + 2 ^ m
+one-more m p = add-mul (p * 2) 1 (2 ^ m) ∙ rw (mul-assoc p 2 (2 ^ m), ← pow-succ' 2 m, one-mul (2 ^ m))
+
+ladder-proper : (m p low : ℕ) → low ≤ p * 2 ^ m → Proper m p low (ladder m p)
+unfolding ladder Proper
+ladder-proper zero p low h =
+    record { key-fits = record { not-below = omega arith; on-path = whole-path p }; parts = elim [ left ↦ refl | right ↦ refl ] }
+ladder-proper (suc m) p low h =
+    record {
+      key-fits = record { not-below = h; on-path = shl-shr p (suc m) };
+      parts =
+          elim [
+            | left ↦ none-proper m (p * 2 + 0) (suc (p * 2 ^ suc m))
+            | right ↦ ladder-proper m (p * 2 + 1) (suc (p * 2 ^ suc m)) (omega (arith, one-more m p, pow-pos m))
+          ];
+    }
+
+-- the last word of a chain: the path, and then ones
+abbrev top : ℕ → ℕ → ℕ
+top m p = p * 2 ^ m + (2 ^ m - 1)
+
+top-step : (m p : ℕ) → top m (p * 2 + 1) ≡ top (suc m) p
+top-step m p = omega (arith, one-more m p, pow-pos m)
+
+-- a way that goes down a chain to its last word, which it reads at depth W
+record Rightmost (m k : ℕ) (w : Way) : Type 0 where
+  steps : length (w .passed) ≡ m
+  bits-left : w .bits ≡ 0
+  ends : w .end ≡ row 0 (record { key = k }) none none
+  nothing-aside : last-such right-left-aside (w .passed) ≡ no-such
+
+-- a rule that turns right at each row over the word k goes down so
+abbrev Turns-right : ℕ → Rule → Type 0
+Turns-right k f =
+    (m p : ℕ) → top m (p * 2 + 1) ≡ k → f m (record { key = p * 2 ^ suc m }) none (ladder m (p * 2 + 1)) ≡ to right
+
+rightmost : (k : ℕ) (f : Rule) → Turns-right k f → (m p : ℕ) → top m p ≡ k → Rightmost m k (way f m (ladder m p))
+unfolding ladder way last-such
+rightmost k f turns zero p is-top =
+    let same : p ≡ k = omega arith in
+    record { steps = refl; bits-left = refl; ends = rw same; nothing-aside = refl }
+rightmost k f turns (suc m) p is-top =
+    let here : top m (p * 2 + 1) ≡ k = top-step m p ∙ is-top in
+    let r = rightmost k f turns m (p * 2 + 1) here in
+    rw (turns m p here)
+    (record { steps = ap suc (r .steps); bits-left = r .bits-left; ends = r .ends; nothing-aside = rw (r .nothing-aside) })
+
+module _ (k m p : ℕ) (below : top m (p * 2 + 1) ≡ k) where
+  goes-right : side m k ≡ right
+  goes-right = side-of-part m k p right (rw (← below) (high (p * 2 + 1) m (ones-lt m)))
+
+  is-over : p * 2 ^ suc m < k
+  is-over = omega (arith, one-more m p, pow-pos m)
+
+following-right : (k : ℕ) → Turns-right k (following k)
+unfolding following
+following-right k m p below = rw (lt-ltb (p * 2 ^ suc m) k (is-over k m p below), goes-right k m p below)
+
+passing-right : (k : ℕ) → Turns-right k (passing-equal k)
+unfolding passing-equal
+passing-right k m p below =
+    let over : p * 2 ^ suc m < k = is-over k m p below in
+    rw (le-leb (p * 2 ^ suc m) k (omega arith), goes-right k m p below)
+
+down-right : (k : ℕ) → Turns-right k (down right)
+unfolding down
+down-right k m p below = rw (ladder-exists m (p * 2 + 1))
+
+rightmost-rows : {m k : ℕ} {w : Way} → Rightmost m k w → rows w ≡ m + 1
+unfolding rows
+rightmost-rows r = rw (r .ends) (omega arith)
+
+-- the PreTree of the words that a proper tree without row numbers lists is that tree, and they are a set
+module _ (W : ℕ) (t : Tree) (S : List ℕ) (proper : Proper W 0 0 t) (lists : listing t ≡ S) where
+  its-tree : unnumbered t ≡ t → treeOf W S ≡ t
+  its-tree bare = ap (treeOf W) (sym lists) ∙ sym (one-tree W 0 0 t proper) ∙ bare
+
+  its-set : SetOf W S
+  its-set =
+      let set : SetOf W (listing t) =
+      record {
+        increasing = keys-rise W 0 0 t proper;
+        below = λ x there. on-root-path W x .1 (each-of-all (keys-fit W 0 0 t proper) there .on-path);
+      } in
+      rw lists at set
+
+module _ (W : ℕ) where
+  chain-proper : Proper W 0 0 (ladder W 0)
+  chain-proper = ladder-proper W 0 0 (omega arith)
+
+  chain-tree : treeOf W (chain W 0) ≡ ladder W 0
+  chain-tree = its-tree W (ladder W 0) (chain W 0) chain-proper (ladder-listing W 0) (ladder-unnumbered W 0)
+
+  down-chain : (f : Rule) → Turns-right (2 ^ W - 1) f → Rightmost W (2 ^ W - 1) (way f W (ladder W 0))
+  down-chain f turns = rightmost (2 ^ W - 1) f turns W 0 (rw (zero-mul (2 ^ W)) (omega arith))
+
+-- from the last row, at depth W, no way goes on
+joined-at-end : {m k : ℕ} {w : Way} (f : Rule) → Rightmost m k w → rows (joined w (way f (w .bits) (w .end))) ≡ m + 1
+unfolding joined way rows
+joined-at-end f r = rw (r .bits-left, r .ends, append-nil) (omega arith)
+
+-- so `add` and `del` of the last word read the chain and no more, whether it counts as found or not
+module _ {m k : ℕ} {w : Way} (r : Rightmost m k w) where
+  add-ends : (b : Bool)
+      → let push : Way = way pushing (w .bits) (w .end) in rows (adding-by k w push (joined w push) b .rows-read) ≡ m + 1
+  add-ends true = rightmost-rows r
+  add-ends false = joined-at-end pushing r
+
+  del-ends : (b : Bool)
+      → let stretch : Way = way (down left) (w .bits) (w .end) in rows (erasing-by w stretch (joined w stretch) b .rows-read) ≡ m + 1
+  del-ends true = joined-at-end (down left) r
+  del-ends false = rightmost-rows r
+
+pub reached : (W : ℕ) → Reached W
+unfolding rowsOver rowsOf has-over last-over adding erasing
+reached W =
+    let k : ℕ = 2 ^ W - 1 in
+    let w : Way = way (following k) W (ladder W 0) in
+    let r : Rightmost W k w = down-chain W (following k) (following-right k) in
+    record {
+      a-set = its-set W (ladder W 0) (chain W 0) (chain-proper W) (ladder-listing W 0);
+      has-reads = rw (chain-tree W) (omega (arith, rightmost-rows r));
+      add-reads = rw (chain-tree W) (add-ends r (ends-at k w));
+      del-reads = rw (chain-tree W) (del-ends r (ends-at k w));
+      last-reads = rw (chain-tree W) (omega (arith, rightmost-rows (down-chain W (down right) (down-right k))));
+    }
+
+rows-passing : (s : Step) (w : Way) → rows (passing s w) ≡ suc (rows w)
+unfolding rows
+rows-passing s w = omega arith
+
+-- "Otherwise take the deepest row where the way went left and a right link exists; its right child is read"
+child-read : (w : Way) (s : Step) {q : Perhaps ℕ} {p : Perhaps Step} → q ≡ no-such → p ≡ such s
+    → rowsOf (next-by w q p .ways) ≡ rows w + rows (way staying (s .below) (s .right-part))
+unfolding rowsOf
+child-read w s none-greater deepest = rw (none-greater, deepest) (omega arith)
+
+-- the tree of a parted chain, with n + 2 bits
+module _ (n : ℕ) where
+  abbrev lone : Tree
+  lone = row 0 (record { key = 2 ^ suc n }) none none
+
+  abbrev low-part : Tree
+  low-part = row 0 (record { key = 1 }) none (ladder n 1)
+
+  abbrev parted : Tree
+  parted = row 0 (record { key = 0 }) low-part lone
+
+  less-one : suc (suc n) - 1 ≡ suc n
+  less-one = omega arith
+
+  less-two : suc (suc n) - 2 ≡ n
+  less-two = omega arith
+
+  parted-lists : listing parted ≡ parted-chain (suc (suc n))
+  unfolding listing parted-chain
+  parted-lists = rw (less-two, less-one, ladder-listing n 1)
+
+  parted-unnumbered : unnumbered parted ≡ parted
+  unfolding unnumbered
+  parted-unnumbered = rw (ladder-unnumbered n 1)
+
+  parted-proper : 1 ≤ n → Proper (suc (suc n)) 0 0 parted
+  unfolding Proper
+  parted-proper some =
+      let two : 2 ^ 1 ≤ 2 ^ n = pow-mono some in
+      record {
+        key-fits = record { not-below = omega arith; on-path = on-root-path (suc (suc n)) 0 .0 (pow-pos (suc (suc n))) };
+        parts =
+            elim [
+              | left ↦
+                  record {
+                    key-fits = record { not-below = omega arith; on-path = on-root-path (suc n) 1 .0 (omega arith) };
+                    parts = elim [ left ↦ none-proper n 0 2 | right ↦ ladder-proper n 1 2 (omega arith) ];
+                  }
+              | right ↦
+                  record {
+                    key-fits = record { not-below = pow-pos (suc n); on-path = rw one-mul at (shl-shr 1 (suc n)) };
+                    parts = elim [ left ↦ none-proper n 2 (suc (2 ^ suc n)) | right ↦ none-proper n 3 (suc (2 ^ suc n)) ];
+                  }
+            ];
+      }
+
+  abbrev root-step : Side → Step
+  root-step s = record { at = 0; entry = record { key = 0 }; turn = s; left-part = low-part; right-part = lone; below = suc n }
+
+  abbrev low-step : Step
+  low-step = record { at = 0; entry = record { key = 1 }; turn = right; left-part = none; right-part = ladder n 1; below = n }
+
+  -- the right child's word is on the right, all the others but 0 are on the left
+  right-side : side (suc n) (2 ^ suc n) ≡ right
+  right-side = side-of-part (suc n) (2 ^ suc n) 0 right (rw one-mul at (shl-shr 1 (suc n)))
+
+  left-side : side (suc n) (2 ^ suc n - 1) ≡ left
+  left-side = side-of-part (suc n) (2 ^ suc n - 1) 0 left (on-root-path (suc n) (2 ^ suc n - 1) .0 (ones-lt (suc n)))
+
+  last-left : top n 1 ≡ 2 ^ suc n - 1
+  last-left = omega (arith, pow-pos n)
+
+  -- "go down from that child, right link first": the whole chain on the left
+  low-rows : rows (way (down right) (suc n) low-part) ≡ n + 2
+  unfolding way down
+  low-rows =
+      let r = rightmost (top n 1) (down right) (down-right (top n 1)) n 1 refl in
+      rw (ladder-exists n 1) (rows-passing low-step (way (down right) n (ladder n 1)) ∙ omega (arith, rightmost-rows r))
+
+  prev-way : way (following (2 ^ suc n)) (suc (suc n)) parted ≡ passing (root-step right) (ending (suc n) lone)
+  unfolding way following
+  prev-way = rw (lt-ltb 0 (2 ^ suc n) (pow-pos (suc n)), right-side, le-ltb (2 ^ suc n) (2 ^ suc n) (omega arith))
+
+  prev-parted : rowsOf (prev-over (suc (suc n)) (2 ^ suc n) parted .ways) ≡ suc (suc n) + 2
+  unfolding prev-over rowsOf rows last-such
+  prev-parted =
+      rw (prev-way, le-ltb (2 ^ suc n) (2 ^ suc n) (omega arith), lt-ltb 0 (2 ^ suc n) (pow-pos (suc n))) (omega (arith, low-rows))
+
+  abbrev last-word : ℕ
+  last-word = 2 ^ suc n - 1
+
+  abbrev chain-way : Way
+  chain-way = way (passing-equal last-word) n (ladder n 1)
+
+  next-way : way (passing-equal last-word) (suc (suc n)) parted ≡ passing (root-step left) (passing low-step chain-way)
+  unfolding way passing-equal
+  next-way =
+      rw (
+        le-leb 0 last-word (omega arith),
+        left-side,
+        le-leb 1 last-word (omega (arith, pow-pos n)),
+        side-of-part n last-word 0 right (rw (← last-left) (high 1 n (ones-lt n))),
+      )
+
+  lone-row : rows (way staying (suc n) lone) ≡ 1
+  unfolding way staying rows
+  lone-row = refl
+
+  next-parted : rowsOf (next-over (suc (suc n)) last-word parted .ways) ≡ suc (suc n) + 2
+  unfolding next-over last-such
+  next-parted =
+      let w : Way = passing (root-step left) (passing low-step chain-way) in
+      let r : Rightmost n last-word chain-way = rightmost last-word (passing-equal last-word) (passing-right last-word) n 1 last-left in
+      let none-greater : only-if (ltb last-word) (keyAt (w .end)) ≡ no-such = rw (r .ends, le-ltb last-word last-word (omega arith)) in
+      let deepest : last-such right-left-aside (w .passed) ≡ such (root-step left) = rw (r .nothing-aside) in
+      rw next-way
+      (child-read w (root-step left) none-greater deepest
+      ∙ omega (arith, rows-passing (root-step left) (passing low-step chain-way), rows-passing low-step chain-way, rightmost-rows r, lone-row))
+
+  parted-reached : 1 ≤ n → ReachedBeyond (suc (suc n))
+  unfolding rowsOver
+  parted-reached some =
+      let W : ℕ = suc (suc n) in
+      let tree : treeOf W (parted-chain W) ≡ parted = its-tree W parted (parted-chain W) (parted-proper some) parted-lists parted-unnumbered in
+      record {
+        a-set = its-set W parted (parted-chain W) (parted-proper some) parted-lists;
+        next-reads = rw (tree, less-one) next-parted;
+        prev-reads = rw (tree, less-one) prev-parted;
+      }
+
+pub reached-beyond : (W : ℕ) → 3 ≤ W → ReachedBeyond W
+reached-beyond zero three = absurd (omega arith)
+reached-beyond (suc zero) three = absurd (omega arith)
+reached-beyond (suc (suc n)) three = parted-reached n (omega arith)
+
+chain-length : (m p : ℕ) → length (chain m p) ≡ m + 1
+unfolding chain
+chain-length zero p = refl
+chain-length (suc m) p = omega (arith, chain-length m (p * 2 + 1))
+
+parted-length : (W : ℕ) → 3 ≤ W → length (parted-chain W) ≡ W + 2
+unfolding parted-chain
+parted-length W three = rw length-append (omega (arith, chain-length (W - 2) 1))
+
+-- the rows of a set are a table with a right header, in which a call that is not refused reads the rows of its ways
+module _ (W : ℕ) (some : 1 ≤ W) (fits : W ≤ 32) (S : List ℕ) (few : length S ≤ 65535) (set : SetOf W S) where
+  right-header : (table : List ℕ) → length table ≡ 3 * length S → wrong-header (record { width = W; count = length S }) table ≡ false
+  unfolding wrong-header capacity
+  right-header table as-many =
+      rw (
+        ne-eqb W 0 (λ e. omega arith),
+        le-ltb 32 W fits,
+        le-ltb (min (length table / 3) 65535) (length S) (omega arith),
+      )
+
+  read-in : (c : Call) → ((room space : ℕ) → refusedOver c W S room space ≡ false) → ReadIn W c (rowsOver c W S)
+  read-in c accepted =
+      let h : Header = record { width = W; count = length S } in
+      let r = every-set-has-rows W S [] (set .increasing) (set .below) in
+      let table : List ℕ = r .rows ++ [] in
+      let right : wrong-header h table ≡ false = right-header table (rw append-nil (r .as-many)) in
+      record {
+        count = length S;
+        table = table;
+        right = right;
+        reads = λ buffer. rows-exact c h table buffer S right (r .held) .rows-read ∙ rw (accepted (capacity table) (length buffer));
+      }
+
+pub reached-in : (W : ℕ) → 1 ≤ W → W ≤ 32 → ReachedIn W
+unfolding refusedOver
+reached-in W some fits =
+    let on-chain = read-in W some fits (chain W 0) (omega (arith, chain-length W 0)) (reached W .a-set) in
+    let small : leb (2 ^ W) (2 ^ W - 1) ≡ false = lt-leb (2 ^ W) (2 ^ W - 1) (ones-lt W) in
+    let half : 2 ^ (W - 1) < 2 ^ W = pow-lt (omega arith) in
+    record {
+      has-reads = rw (reached W .has-reads) at (on-chain (has (2 ^ W - 1)) (λ room space. small));
+      del-reads = rw (reached W .del-reads) at (on-chain (del (2 ^ W - 1)) (λ room space. small));
+      last-reads = rw (reached W .last-reads) at (on-chain last (λ room space. refl));
+      next-reads =
+          λ three.
+          rw (reached-beyond W three .next-reads) at
+          (on-parted three (next (2 ^ (W - 1) - 1)) (λ room space. lt-leb (2 ^ W) (2 ^ (W - 1) - 1) (omega arith)));
+      prev-reads =
+          λ three.
+          rw (reached-beyond W three .prev-reads) at (on-parted three (prev (2 ^ (W - 1))) (λ room space. lt-leb (2 ^ W) (2 ^ (W - 1)) half));
+    }
+  where
+    on-parted : 3 ≤ W → (c : Call) → ((room space : ℕ) → refusedOver c W (parted-chain W) room space ≡ false)
+        → ReadIn W c (rowsOver c W (parted-chain W))
+    on-parted three = read-in W some fits (parted-chain W) (omega (arith, parted-length W three)) (reached-beyond W three .a-set)

@@ -1,0 +1,297 @@
+-- Demand 3: the rows that a call reports are those of its ways over the PreTree of the present words, and so many at most.
+-- Document 01: "The rows-read number in each reply equals the length of the defined way, bounded by W+1 or W+2."
+use Prim.Native.Nat.{ℕ, suc, pred, _+_, _/_, _^_, _≤_, _<_}
+use mathlib.Core.Path.{_≡_, refl, sym, ap, _∙_}
+use mathlib.Core.Bool.{Bool, true, false, not, _&&_, _||_, false≢true}
+use mathlib.Core.List.{List, [], _∷_}
+use native.Mathlib.Omega.{arith}
+use lib.Dec.{ltb, leb, eqb}
+use lib.ListN.{length}
+use borrow.Author.Tests.{leb-false}
+use Rattle.ordered.specs.Such.{if_then_else_, Perhaps, no-such, such}
+use Rattle.ordered.specs.Dictionary.{lookup}
+use Rattle.ordered.specs.Tree.{Tree, intact, unnumbered, treeOf}
+use Rattle.ordered.specs.Way.{Way, rows, broken, way, following}
+use Rattle.ordered.specs.Reading.{Reading, rowsOf, brokenIn, has as has-over, next as next-over, prev as prev-over, first as first-over, last as last-over, gap as gap-over}
+use Rattle.ordered.specs.Change.{Adding, adding, Erasing, erasing}
+use Rattle.ordered.proofs.Rows.{way-rows, has-rows, next-rows, prev-rows, first-rows, last-rows, gap-rows, adding-rows, erasing-rows}
+use Rattle.ordered.proofs.Bits.{on-root-path}
+use Rattle.ordered.proofs.Unnumbered.{has-unnumbered, next-unnumbered, prev-unnumbered, first-unnumbered, last-unnumbered, gap-unnumbered, adding-unnumbered, erasing-unnumbered}
+use Rattle.ordered.proofs.Unbroken.{has-unbroken, next-unbroken, prev-unbroken, first-unbroken, last-unbroken, gap-unbroken, adding-unbroken, erasing-unbroken}
+use Rattle.ordered.proofs.Ways.{unbroken}
+use Rattle.ordered.proofs.Answers.{adding-present, erasing-present}
+use Rattle.pretree.specs.declared.Header.{Header}
+use Rattle.pretree.specs.declared.Answer.{Answer}
+use Rattle.pretree.specs.declared.Answer.the-variants.{Done, Word, Distance, WrongWidth, WrongHeader, WordTooWide, Damage, Full, ShortBuffer, AlreadyThere, NoSuchWord}
+use Rattle.pretree.specs.declared.Reply.{Reply}
+use Rattle.pretree.specs.Table.{capacity, rowAt}
+use Rattle.pretree.specs.Unfold.{shown}
+use Rattle.pretree.specs.Answer.{numberOf}
+use Rattle.pretree.specs.Reply.{fresh, wrong-width, wrong-header, too-wide, refused, answered}
+use Rattle.pretree.specs.Find.{saying, done, read-reply, hasReply, nextReply, prevReply, firstReply, lastReply, gapReply}
+use Rattle.pretree.specs.Add.{Outcome, addOutcome}
+use Rattle.pretree.specs.Del.{secondWay, astray, delOutcome}
+use Rattle.pretree.specs.Sound.{isSound}
+use Rattle.pretree.specs.Whole.{newReply, auditReply, listReply}
+use Rattle.demands.specs.Call.{new, add, del, has, next, prev, gap, first, last, audit, list, after}
+use Rattle.demands.specs.SoundIs.{HoldsSet}
+use Rattle.demands.specs.RowsRead.{rowsOver, moves, movedOver, refusedOver, isRefusal, Reports, RowsExact, RowsAlike, mostRows, mostMoved, AtMost, RowsBounded}
+use Rattle.demands.proofs.Tested.{shown-proper}
+use Rattle.demands.proofs.SoundIs.{tree-intact, sound-is, one-tree-each}
+use Rattle.demands.proofs.SecondWay.{second-way-ends}
+
+-- what holds of both is so of the one that a test picks
+either-way : {A : Type 0} (P : A → Type 0) (b : Bool) {x y : A} → P x → P y → P (if b then x else y)
+either-way P true p q = p
+either-way P false p q = q
+
+module _ {n m : ℕ} where
+  none-few : (h : Header) (a : Answer) → AtMost n m (refused h a)
+  none-few h a = record { few-read = omega arith; few-moved = omega arith }
+
+  answer-few : (h : Header) (a : Answer) {x : ℕ} → x ≤ n → AtMost n m (answered h a x)
+  answer-few h a few = record { few-read = few; few-moved = omega arith }
+
+read-few : {n : ℕ} (h : Header) (table : List ℕ) (wide : Bool) (word : ℕ → Answer) (r : Reading) → rowsOf (r .ways) ≤ n
+    → AtMost n 0 (read-reply h table wide word r)
+read-few {n} h table wide word r few =
+    either-way (AtMost n 0) (wrong-header h table) (none-few h WrongHeader)
+    (either-way (AtMost n 0) wide (none-few h WordTooWide)
+    (either-way (AtMost n 0) (brokenIn (r .ways)) (none-few h Damage) (answer-few h (saying word (r .answer)) few)))
+
+pub rows-bounded : RowsBounded
+unfolding after mostRows mostMoved newReply hasReply nextReply prevReply gapReply firstReply lastReply addOutcome delOutcome auditReply listReply secondWay
+rows-bounded (new w) h table buffer =
+    either-way (AtMost 0 0) (wrong-width w) (none-few h WrongWidth) (none-few (fresh w) Done)
+rows-bounded (add k) h table buffer =
+    let a : Adding = adding (h .width) k (shown h table) in
+    let more : Header = record { width = h .width; count = suc (h .count) } in
+    let P : Outcome → Type 0 = λ o. AtMost (h .width + 1) 0 (o .reply) in
+    let few : rows (a .rows-read) ≤ h .width + 1 = adding-rows (h .width) k (shown h table) in
+    either-way P (wrong-header h table) (none-few h WrongHeader)
+    (either-way P (too-wide h k) (none-few h WordTooWide)
+    (either-way P (broken (a .rows-read)) (none-few h Damage)
+    (either-way P (a .present) (answer-few h AlreadyThere few)
+    (either-way P (eqb (h .count) (capacity table)) (none-few h Full) (answer-few more Done few)))))
+rows-bounded (del k) h table buffer =
+    let e : Erasing = erasing (h .width) k (shown h table) in
+    let second : Way = secondWay h table in
+    let goes : Bool = not (eqb (e .hole) (pred (h .count))) in
+    let P : Outcome → Type 0 = λ o. AtMost (h .width + 1) (h .width + 1) (o .reply) in
+    let few : rows (e .rows-read) ≤ h .width + 1 = erasing-rows (h .width) k (shown h table) in
+    let key : ℕ = rowAt table (pred (h .count)) .entry .key in
+    either-way P (wrong-header h table) (none-few h WrongHeader)
+    (either-way P (too-wide h k) (none-few h WordTooWide)
+    (either-way P (broken (e .rows-read)) (none-few h Damage)
+    (either-way P (not (e .present)) (answer-few h NoSuchWord few)
+    (either-way P (goes && (broken second || astray h table second)) (none-few h Damage)
+    (record {
+      few-read = few;
+      few-moved = either-way (λ x. x ≤ h .width + 1) goes (way-rows (following key) (h .width) (shown h table)) (omega arith);
+    })))))
+rows-bounded (has k) h table buffer =
+    read-few h table (too-wide h k) done (has-over (h .width) k (shown h table)) (has-rows (h .width) k (shown h table))
+rows-bounded (next k) h table buffer =
+    read-few h table (too-wide h k) Word (next-over (h .width) k (shown h table)) (next-rows (h .width) k (shown h table))
+rows-bounded (prev k) h table buffer =
+    read-few h table (too-wide h k) Word (prev-over (h .width) k (shown h table)) (prev-rows (h .width) k (shown h table))
+rows-bounded (gap k) h table buffer =
+    read-few h table (too-wide h k) Distance (gap-over (h .width) k (shown h table)) (gap-rows (h .width) k (shown h table))
+rows-bounded first h table buffer =
+    read-few h table false Word (first-over (h .width) (shown h table)) (omega (arith, first-rows (h .width) (shown h table)))
+rows-bounded last h table buffer =
+    read-few h table false Word (last-over (h .width) (shown h table)) (last-rows (h .width) (shown h table))
+rows-bounded audit h table buffer =
+    let P : Reply → Type 0 = AtMost (h .count) 0 in
+    either-way P (wrong-header h table) (none-few h WrongHeader)
+    (either-way P (isSound h table) (answer-few h Done (omega arith)) (none-few h Damage))
+rows-bounded list h table buffer =
+    let P : Reply → Type 0 = AtMost (h .count) 0 in
+    either-way P (wrong-header h table) (none-few h WrongHeader)
+    (either-way P (isSound h table)
+    (either-way P (ltb (length buffer) (h .count)) (none-few h ShortBuffer) (answer-few h Done (omega arith)))
+    (none-few h Damage))
+
+-- the way of a word reads as many rows of a tree as of the same tree without its row numbers
+way-unnumbered : (m k : ℕ) (t : Tree) → rows (way (following k) m (unnumbered t)) ≡ rows (way (following k) m t)
+unfolding has-over rowsOf
+way-unnumbered m k t = omega (arith, has-unnumbered m k t .same-rows)
+
+not-empty : (k : ℕ) (S : List ℕ) → lookup k S ≡ true → 0 < length S
+unfolding lookup
+not-empty k [] there = absurd (false≢true there)
+not-empty k (x ∷ xs) there = omega arith
+
+module _ (h : Header) (table S : List ℕ) (right : wrong-header h table ≡ false) (s : HoldsSet h table S) where
+  undamaged : intact (shown h table) ≡ true
+  undamaged = tree-intact h table S (s .increasing) (s .below) (s .tree)
+
+  -- what does not see row numbers reads the table as the PreTree of the set
+  on-set : (f : Tree → ℕ) → ((t : Tree) → f (unnumbered t) ≡ f t) → f (shown h table) ≡ f (treeOf (h .width) S)
+  on-set f blind = sym (blind (shown h table)) ∙ ap f (s .tree)
+
+  read-reports : {n : ℕ} (wide : Bool) (word : ℕ → Answer) (r : Reading) → ((x : ℕ) → isRefusal (numberOf (word x)) ≡ false)
+      → brokenIn (r .ways) ≡ false → rowsOf (r .ways) ≡ n → Reports wide n 0 (read-reply h table wide word r)
+  unfolding numberOf
+  read-reports true word r says sound same = rw right (record { number = refl; rows-read = refl; moving-count = refl })
+  read-reports false word r says sound same =
+      rw (right, sound) (record { number = said (r .answer); rows-read = same; moving-count = refl })
+    where
+      said : (q : Perhaps ℕ) → isRefusal (numberOf (saying word q)) ≡ false
+      said (such x) = says x
+      said no-such = refl
+
+  sound : isSound h table ≡ true
+  sound = sound-is h table .the-test .0 (sound-is h table .of-a-set .1 (S, s))
+
+  module _ (k : ℕ) (fits : leb (2 ^ h .width) k ≡ false) where
+    on-path : k / 2 ^ h .width ≡ 0
+    on-path = on-root-path (h .width) k .0 (leb-false (2 ^ h .width) k fits)
+
+    add-finds : adding (h .width) k (shown h table) .present ≡ lookup k S
+    add-finds =
+        adding-present (h .width) k 0 0 (shown h table) on-path (shown-proper h table undamaged)
+        ∙ ap (lookup k) (one-tree-each .its-listing s)
+
+    del-finds : erasing (h .width) k (shown h table) .present ≡ lookup k S
+    del-finds =
+        erasing-present (h .width) k 0 0 (shown h table) on-path (shown-proper h table undamaged)
+        ∙ ap (lookup k) (one-tree-each .its-listing s)
+
+  abbrev last-key : ℕ
+  last-key = rowAt table (pred (h .count)) .entry .key
+
+  second-rows : rows (secondWay h table) ≡ rows (way (following last-key) (h .width) (treeOf (h .width) S))
+  unfolding secondWay
+  second-rows = on-set (λ t. rows (way (following last-key) (h .width) t)) (way-unnumbered (h .width) last-key)
+
+  second-whole : broken (secondWay h table) ≡ false
+  unfolding secondWay
+  second-whole = unbroken (following last-key) (h .width) (shown h table) undamaged
+
+  module _ (k : ℕ) where
+    abbrev Add-reports : Type 0
+    Add-reports =
+        Reports (leb (2 ^ h .width) k || (not (lookup k S) && eqb (length S) (capacity table)))
+        (rows (adding (h .width) k (treeOf (h .width) S) .rows-read)) 0 (addOutcome h table k .reply)
+
+    add-reports : Add-reports
+    unfolding addOutcome too-wide numberOf
+    add-reports = by-width (leb (2 ^ h .width) k) refl
+      where
+        same : rows (adding (h .width) k (shown h table) .rows-read) ≡ rows (adding (h .width) k (treeOf (h .width) S) .rows-read)
+        same = on-set (λ t. rows (adding (h .width) k t .rows-read)) (λ t. adding-unnumbered (h .width) k t .same-rows)
+
+        no-damage : broken (adding (h .width) k (shown h table) .rows-read) ≡ false
+        no-damage = adding-unbroken (h .width) (shown h table) undamaged k
+
+        by-room : leb (2 ^ h .width) k ≡ false → lookup k S ≡ false → (b : Bool) → eqb (h .count) (capacity table) ≡ b → Add-reports
+        by-room fits absent true full =
+            rw (right, fits, no-damage, add-finds k fits, absent, s .number, full) (record { number = refl; rows-read = refl; moving-count = refl })
+        by-room fits absent false full =
+            rw (right, fits, no-damage, add-finds k fits, absent, s .number, full) (record { number = refl; rows-read = same; moving-count = refl })
+
+        by-presence : leb (2 ^ h .width) k ≡ false → (b : Bool) → lookup k S ≡ b → Add-reports
+        by-presence fits true there =
+            rw (right, fits, no-damage, add-finds k fits, there) (record { number = refl; rows-read = same; moving-count = refl })
+        by-presence fits false absent = by-room fits absent (eqb (h .count) (capacity table)) refl
+
+        by-width : (b : Bool) → leb (2 ^ h .width) k ≡ b → Add-reports
+        by-width true wide = rw (right, wide) (record { number = refl; rows-read = refl; moving-count = refl })
+        by-width false fits = by-presence fits (lookup k S) refl
+
+    abbrev Del-reports : Type 0
+    Del-reports =
+        Reports (leb (2 ^ h .width) k) (rows (erasing (h .width) k (treeOf (h .width) S) .rows-read)) (movedOver (del k) h table S)
+        (delOutcome h table k .reply)
+
+    del-reports : Del-reports
+    unfolding delOutcome movedOver moves too-wide numberOf
+    del-reports = by-width (leb (2 ^ h .width) k) refl
+      where
+        same : rows (erasing (h .width) k (shown h table) .rows-read) ≡ rows (erasing (h .width) k (treeOf (h .width) S) .rows-read)
+        same = on-set (λ t. rows (erasing (h .width) k t .rows-read)) (λ t. erasing-unnumbered (h .width) k t .same-rows)
+
+        no-damage : broken (erasing (h .width) k (shown h table) .rows-read) ≡ false
+        no-damage = erasing-unbroken (h .width) (shown h table) undamaged k
+
+        by-hole : leb (2 ^ h .width) k ≡ false → lookup k S ≡ true → (b : Bool)
+            → not (eqb (erasing (h .width) k (shown h table) .hole) (pred (h .count))) ≡ b → Del-reports
+        by-hole fits there true goes =
+            let some : 0 < h .count = omega (arith, not-empty k S there) in
+            rw (right, fits, no-damage, del-finds k fits, there, goes, second-whole, second-way-ends h table S s some)
+            (record { number = refl; rows-read = same; moving-count = second-rows })
+        by-hole fits there false stays =
+            rw (right, fits, no-damage, del-finds k fits, there, stays) (record { number = refl; rows-read = same; moving-count = refl })
+
+        by-presence : leb (2 ^ h .width) k ≡ false → (b : Bool) → lookup k S ≡ b → Del-reports
+        by-presence fits true there = by-hole fits there (not (eqb (erasing (h .width) k (shown h table) .hole) (pred (h .count)))) refl
+        by-presence fits false absent =
+            rw (right, fits, no-damage, del-finds k fits, absent) (record { number = refl; rows-read = same; moving-count = refl })
+
+        by-width : (b : Bool) → leb (2 ^ h .width) k ≡ b → Del-reports
+        by-width true wide = rw (right, wide) (record { number = refl; rows-read = refl; moving-count = refl })
+        by-width false fits = by-presence fits (lookup k S) refl
+
+  audit-reports : Reports false (length S) 0 (auditReply h table)
+  unfolding auditReply numberOf
+  audit-reports = rw (right, sound) (record { number = refl; rows-read = sym (s .number); moving-count = refl })
+
+  list-reports : (buffer : List ℕ) → Reports (ltb (length buffer) (length S)) (length S) 0 (listReply h table buffer)
+  unfolding listReply numberOf
+  list-reports buffer = rw (right, sound, s .number) (by-space (ltb (length buffer) (h .count)))
+    where
+      by-space : (b : Bool) → Reports b (h .count) 0 (if b then refused h ShortBuffer else answered h Done (h .count))
+      by-space true = record { number = refl; rows-read = refl; moving-count = refl }
+      by-space false = record { number = refl; rows-read = refl; moving-count = refl }
+
+new-reports : (h : Header) (w : ℕ) → Reports (wrong-width w) 0 0 (newReply h w)
+unfolding newReply numberOf
+new-reports h w = by-width (wrong-width w)
+  where
+    by-width : (b : Bool) → Reports b 0 0 (if b then refused h WrongWidth else answered (fresh w) Done 0)
+    by-width true = record { number = refl; rows-read = refl; moving-count = refl }
+    by-width false = record { number = refl; rows-read = refl; moving-count = refl }
+
+pub rows-exact : RowsExact
+unfolding after refusedOver rowsOver movedOver too-wide numberOf hasReply nextReply prevReply gapReply firstReply lastReply
+rows-exact (new w) h table buffer S right s = new-reports h w
+rows-exact (add k) h table buffer S right s = add-reports h table S right s k
+rows-exact (del k) h table buffer S right s = del-reports h table S right s k
+rows-exact (has k) h table buffer S right s =
+    let W : ℕ = h .width in
+    read-reports h table S right s (leb (2 ^ W) k) done (has-over W k (shown h table)) (λ x. refl)
+    (has-unbroken W (shown h table) (undamaged h table S right s) k)
+    (on-set h table S right s (λ t. rowsOf (has-over W k t .ways)) (λ t. has-unnumbered W k t .same-rows))
+rows-exact (next k) h table buffer S right s =
+    let W : ℕ = h .width in
+    read-reports h table S right s (leb (2 ^ W) k) Word (next-over W k (shown h table)) (λ x. refl)
+    (next-unbroken W (shown h table) (undamaged h table S right s) k)
+    (on-set h table S right s (λ t. rowsOf (next-over W k t .ways)) (λ t. next-unnumbered W k t .same-rows))
+rows-exact (prev k) h table buffer S right s =
+    let W : ℕ = h .width in
+    read-reports h table S right s (leb (2 ^ W) k) Word (prev-over W k (shown h table)) (λ x. refl)
+    (prev-unbroken W (shown h table) (undamaged h table S right s) k)
+    (on-set h table S right s (λ t. rowsOf (prev-over W k t .ways)) (λ t. prev-unnumbered W k t .same-rows))
+rows-exact (gap k) h table buffer S right s =
+    let W : ℕ = h .width in
+    read-reports h table S right s (leb (2 ^ W) k) Distance (gap-over W k (shown h table)) (λ x. refl)
+    (gap-unbroken W (shown h table) (undamaged h table S right s) k)
+    (on-set h table S right s (λ t. rowsOf (gap-over W k t .ways)) (λ t. gap-unnumbered W k t .same-rows))
+rows-exact first h table buffer S right s =
+    let W : ℕ = h .width in
+    read-reports h table S right s false Word (first-over W (shown h table)) (λ x. refl)
+    (first-unbroken W (shown h table) (undamaged h table S right s))
+    (on-set h table S right s (λ t. rowsOf (first-over W t .ways)) (λ t. first-unnumbered W t .same-rows))
+rows-exact last h table buffer S right s =
+    let W : ℕ = h .width in
+    read-reports h table S right s false Word (last-over W (shown h table)) (λ x. refl)
+    (last-unbroken W (shown h table) (undamaged h table S right s))
+    (on-set h table S right s (λ t. rowsOf (last-over W t .ways)) (λ t. last-unnumbered W t .same-rows))
+rows-exact audit h table buffer S right s = audit-reports h table S right s
+rows-exact list h table buffer S right s = list-reports h table S right s buffer
+
+pub rows-alike : RowsAlike
+unfolding capacity
+rows-alike c h h′ table table′ buffer S right right′ s s′ width length =
+    rows-exact c h table buffer S right s .rows-read ∙ (rw (width, length)) ∙ sym (rows-exact c h′ table′ buffer S right′ s′ .rows-read)

@@ -1,0 +1,133 @@
+-- Demand 3: "each call reports as rows read exactly those on the way", over the PreTree of the present words, with the bounds for every W.
+-- Document 01: "A row is read when its key is looked at; each row on a way counts once."
+use Prim.Native.Nat.{ℕ, pred, _+_, _*_, _^_, _≤_}
+use mathlib.Core.Path.{_≡_}
+use mathlib.Core.Bool.{Bool, false, not, _&&_, _||_}
+use mathlib.Core.List.{List}
+use lib.Dec.{ltb, leb, eqb}
+use lib.ListN.{length}
+use Rattle.ordered.specs.Such.{if_then_else_}
+use Rattle.ordered.specs.Dictionary.{lookup}
+use Rattle.ordered.specs.Tree.{treeOf}
+use Rattle.ordered.specs.Way.{rows, way, following}
+use Rattle.ordered.specs.Reading.{rowsOf, has as has-over, next as next-over, prev as prev-over, first as first-over, last as last-over, gap as gap-over}
+use Rattle.ordered.specs.Change.{adding, erasing}
+use Rattle.pretree.specs.declared.Header.{Header}
+use Rattle.pretree.specs.declared.Reply.{Reply}
+use Rattle.pretree.specs.Table.{capacity, rowAt}
+use Rattle.pretree.specs.Unfold.{shown}
+use Rattle.pretree.specs.Answer.{numberOf}
+use Rattle.pretree.specs.Reply.{wrong-width, wrong-header}
+use Rattle.demands.specs.Call.{Call, new, add, del, has, next, prev, gap, first, last, audit, list, after}
+use Rattle.demands.specs.SoundIs.{HoldsSet}
+
+-- the rows of the ways of a call over the PreTree of the words of S. "`new` reads no row"; `audit` and `list`: "Both count `count` rows."
+unfoldable pub rowsOver : Call → ℕ → List ℕ → ℕ
+rowsOver (new w) W S = 0
+rowsOver (add k) W S = rows (adding W k (treeOf W S) .rows-read)
+rowsOver (del k) W S = rows (erasing W k (treeOf W S) .rows-read)
+rowsOver (has k) W S = rowsOf (has-over W k (treeOf W S) .ways)
+rowsOver (next k) W S = rowsOf (next-over W k (treeOf W S) .ways)
+rowsOver (prev k) W S = rowsOf (prev-over W k (treeOf W S) .ways)
+rowsOver (gap k) W S = rowsOf (gap-over W k (treeOf W S) .ways)
+rowsOver first W S = rowsOf (first-over W (treeOf W S) .ways)
+rowsOver last W S = rowsOf (last-over W (treeOf W S) .ways)
+rowsOver audit W S = length S
+rowsOver list W S = length S
+
+-- whether the last row moves at a `del` of k: the word is there, and "the hole is not row count−1"
+unfoldable pub moves : Header → List ℕ → List ℕ → ℕ → Bool
+moves h table S k = lookup k S && not (eqb (erasing (h .width) k (shown h table) .hole) (pred (h .count)))
+
+-- "The rows of the second way", that of the last row's key, "are the moving count; it is 0 where nothing moves, and in every other call."
+unfoldable pub movedOver : Call → Header → List ℕ → List ℕ → ℕ
+movedOver (new w) h table S = 0
+movedOver (add k) h table S = 0
+movedOver (del k) h table S =
+    let last-key : ℕ = rowAt table (pred (h .count)) .entry .key in
+    if moves h table S k then rows (way (following last-key) (h .width) (treeOf (h .width) S))
+    else 0
+movedOver (has k) h table S = 0
+movedOver (next k) h table S = 0
+movedOver (prev k) h table S = 0
+movedOver (gap k) h table S = 0
+movedOver first h table S = 0
+movedOver last h table S = 0
+movedOver audit h table S = 0
+movedOver list h table S = 0
+
+-- what a call is refused for on a table that holds S, with room for so many rows, and a buffer of so many words: 1, 3, 5 and 6 alone
+unfoldable pub refusedOver : Call → ℕ → List ℕ → ℕ → ℕ → Bool
+refusedOver (new w) W S room space = wrong-width w
+refusedOver (add k) W S room space = leb (2 ^ W) k || (not (lookup k S) && eqb (length S) room)
+refusedOver (del k) W S room space = leb (2 ^ W) k
+refusedOver (has k) W S room space = leb (2 ^ W) k
+refusedOver (next k) W S room space = leb (2 ^ W) k
+refusedOver (prev k) W S room space = leb (2 ^ W) k
+refusedOver (gap k) W S room space = leb (2 ^ W) k
+refusedOver first W S room space = false
+refusedOver last W S room space = false
+refusedOver audit W S room space = false
+refusedOver list W S room space = ltb space (length S)
+
+-- "1 to 6 and 9 are refusals"; 9 is the line program's
+abbrev pub isRefusal : ℕ → Bool
+isRefusal n = ltb 0 n && ltb n 7
+
+-- what a reply reports: these counts, and "counts 0" with a number of a refusal
+pub record Reports (refused : Bool) (read moving : ℕ) (r : Reply) : Type 0 where
+  pub number : isRefusal (numberOf (r .answer)) ≡ refused
+  pub rows-read : r .rows ≡ (if refused then 0 else read)
+  pub moving-count : r .moved ≡ (if refused then 0 else moving)
+
+-- on every table that holds a set, the counts are those of the ways over the set's PreTree
+abbrev pub RowsExact : Type 0
+RowsExact =
+    (c : Call) (h : Header) (table buffer S : List ℕ) → wrong-header h table ≡ false → HoldsSet h table S
+    → Reports (refusedOver c (h .width) S (capacity table) (length buffer)) (rowsOver c (h .width) S) (movedOver c h table S)
+    (after c h table buffer .reply)
+
+-- two tables of equal length that hold the same words at the same width, whatever their row numbers, give the same rows read
+abbrev pub RowsAlike : Type 0
+RowsAlike =
+    (c : Call) (h h′ : Header) (table table′ buffer S : List ℕ)
+    → wrong-header h table ≡ false → wrong-header h′ table′ ≡ false
+    → HoldsSet h table S → HoldsSet h′ table′ S → h .width ≡ h′ .width → length table ≡ length table′
+    → after c h table buffer .reply .rows ≡ after c h′ table′ buffer .reply .rows
+
+-- the most rows that a call reads
+unfoldable pub mostRows : Call → Header → ℕ
+mostRows (new w) h = 0
+mostRows (add k) h = h .width + 1
+mostRows (del k) h = h .width + 1
+mostRows (has k) h = h .width + 1
+mostRows (next k) h = h .width + 2
+mostRows (prev k) h = h .width + 2
+mostRows (gap k) h = 2 * h .width + 4
+mostRows first h = h .width + 1
+mostRows last h = h .width + 1
+mostRows audit h = h .count
+mostRows list h = h .count
+
+-- and the most that it reads for a move
+unfoldable pub mostMoved : Call → Header → ℕ
+mostMoved (new w) h = 0
+mostMoved (add k) h = 0
+mostMoved (del k) h = h .width + 1
+mostMoved (has k) h = 0
+mostMoved (next k) h = 0
+mostMoved (prev k) h = 0
+mostMoved (gap k) h = 0
+mostMoved first h = 0
+mostMoved last h = 0
+mostMoved audit h = 0
+mostMoved list h = 0
+
+pub record AtMost (read moving : ℕ) (r : Reply) : Type 0 where
+  pub few-read : r .rows ≤ read
+  pub few-moved : r .moved ≤ moving
+
+-- on every header, table and buffer, right or wrong, sound or damaged
+abbrev pub RowsBounded : Type 0
+RowsBounded =
+    (c : Call) (h : Header) (table buffer : List ℕ) → AtMost (mostRows c h) (mostMoved c h) (after c h table buffer .reply)
