@@ -1,6 +1,6 @@
 -- The outcome of `add`, from the walk that went the way of the word and the walk that went on with the push.
-use Prim.Native.Nat.{ℕ, suc, _-_, _%_, _≤_, _<_}
-use mathlib.Core.Path.{_≡_, refl, sym, _∙_}
+use Prim.Native.Nat.{ℕ, _-_, _%_, _≤_, _<_}
+use mathlib.Core.Path.{_≡_, refl, sym}
 use mathlib.Core.Bool.{Bool, true, false, true≢false}
 use mathlib.Core.List.{List, _++_}
 use native.Mathlib.Nat.{le-trans, lt-of-lt-of-le}
@@ -13,20 +13,20 @@ use Rattle.ordered.specs.Word.{Side, sideOf}
 use Rattle.ordered.specs.Tree.{Tree, none, damaged}
 use Rattle.ordered.specs.Way.{Way, way, joined, broken, isDamaged, pushing}
 use Rattle.ordered.specs.Way as Ways
-use Rattle.ordered.specs.Change.{Adding, isThere, ends-at, adding, adding-by}
+use Rattle.ordered.specs.Change.{isThere, ends-at, adding, adding-by}
 use Rattle.ordered.proofs.Parts.{All, none-all, all-append, If-such, last-such-one}
 use Rattle.pretree.specs.declared.Header.{Header}
 use Rattle.pretree.specs.declared.Row.{Row}
-use Rattle.pretree.specs.declared.Answer.the-variants.{Done, Damage, Full, AlreadyThere}
+use Rattle.pretree.specs.declared.Answer.the-variants.{AlreadyThere}
 use Rattle.pretree.specs.declared.walk.Stage.{Stage}
 use Rattle.pretree.specs.declared.walk.Stage.the-variants.{On, AtNone, AtRow, AtDamage}
 use Rattle.pretree.specs.declared.walk.Walk.{Walk}
 use Rattle.pretree.specs.Table.{capacity, rowAt, hooked}
 use Rattle.pretree.specs.Unfold.{shown}
-use Rattle.pretree.specs.Reply.{wrong-header, too-wide, refused, answered}
+use Rattle.pretree.specs.Reply.{wrong-header, too-wide, answered}
 use Rattle.pretree.specs.Walk.{isOn, rowsRead, treeAt, to-come, stepAt, remembered, seeking, Goes, Walked}
 use Rattle.pretree.specs.Resume.{isDamage, endsAt, resumed, Going, GoingSome, GoneOn}
-use Rattle.pretree.specs.Add.{hooking, grown, Outcome, addOutcome}
+use Rattle.pretree.specs.Add.{hooking, grown, addOutcome}
 use Rattle.pretree.specs.Push.{grownAt, Growable, outcomeWhere}
 use Rattle.pretree.proofs.Checks.{right-header}
 use Rattle.pretree.proofs.Walking.{at-none, at-damage}
@@ -121,25 +121,10 @@ module _ (h : Header) (table : List ℕ) (k : ℕ) (w : Walk) (fine : wrong-head
       by-stage AtRow e = refl
       by-stage AtDamage e = sym e
 
-  -- the outcome from damage on, as the definition has it
-  abbrev outcomeFrom : Adding → Outcome
-  outcomeFrom a =
-      if broken (a .rows-read) then record { reply = refused h Damage; table = table }
-      else if a .present then record { reply = answered h AlreadyThere (Ways.rows (a .rows-read)); table = table }
-      else if eqb (h .count) (capacity table) then record { reply = refused h Full; table = table }
-      else
-      record {
-        reply = answered (record { width = h .width; count = suc (h .count) }) Done (Ways.rows (a .rows-read));
-        table = grown (h .count) a table;
-      }
-
-  outcome-from : too-wide h k ≡ false → (b : Bool) → endsAt k (w .key) (w .stage) ≡ b → addOutcome h table k ≡ outcomeFrom (adding-by k first push whole b)
-  unfolding addOutcome adding
-  outcome-from small b e = rw (fine, small, following-is k, there, e)
-
   pub present-outcome : too-wide h k ≡ false → endsAt k (w .key) (w .stage) ≡ true
       → addOutcome h table k ≡ record { reply = answered h AlreadyThere (rowsRead w (h .width)); table = table }
-  present-outcome small e = outcome-from small true e ∙ rw (whole-there e, rows-gone rows _ _ _ _ w gone)
+  unfolding addOutcome adding
+  present-outcome small e = rw (fine, small, following-is k, there, e, whole-there e, rows-gone rows _ _ _ _ w gone)
 
   module _ (p : Walk) (on : GoneOn rows pushing (resumed w) p) where
     abbrev going : Going rows pushing (h .width) (w .count) whole p
@@ -198,5 +183,5 @@ module _ (h : Header) (table : List ℕ) (k : ℕ) (w : Walk) (fine : wrong-head
     whole-rows = rw (all-told .number, all-told .end-rows)
 
     pub absent-outcome : too-wide h k ≡ false → endsAt k (w .key) (w .stage) ≡ false → addOutcome h table k ≡ outcomeWhere h table k (w .row) (w .bits) p
-    unfolding outcomeWhere
-    absent-outcome small e = outcome-from small false e ∙ rw (whole-broken, whole-rows, grown-is)
+    unfolding addOutcome adding outcomeWhere
+    absent-outcome small e = rw (fine, small, following-is k, there, e, whole-broken, whole-rows, grown-is)

@@ -120,7 +120,7 @@ module _ (table₀ : List ℕ) (end n₀ i₀ : ℕ) (e₀ : Entry) where
     unfolding Rising capacity
     next-used = rw (p .same-length) (p .ahead .0)
 
-    pub next-row : rowAt table i ≡ rowAt table₀ i
+    next-row : rowAt table i ≡ rowAt table₀ i
     unfolding Rising
     next-row = p .untouched i (p .ahead .1)
 

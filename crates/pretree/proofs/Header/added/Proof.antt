@@ -27,10 +27,11 @@ same-length c = search needs
 
 returns : tie.Need-returns
 returns c =
-    let q = c .before .before .before .before .before .before .before in
+    let m = c .before .before in
+    let q = m .before .before .before .before .before in
     let a = q .args in
-    let w = c .before .before .before .before .way-of in
-    let there : endsAt (a .word) (w .result .key) (w .result .stage) ≡ true = sym (c .before .before .before .ends-at .ensures) ∙ c .before .before .if1 .taken in
+    let w = m .before .before .way-of in
+    let there : endsAt (a .word) (w .result .key) (w .result .stage) ≡ true = sym (m .before .ends-at .ensures) ∙ m .if1 .taken in
     let is = present-outcome (a .self) (a .table .now) (a .word) (w .result) (q .pre .0) (w .ensures) (q .pre .1) there in
     (rw (is, c .answered .ensures, c .before .rows .ensures), rw is)
 
@@ -38,8 +39,10 @@ push-way-requires : tie.Need-push-way-requires
 push-way-requires c κs =
     let q = c .before .before .before .before .before .before in
     let a = q .args in
-    let w = c .before .before .before .way-of in
-    (in-table (a .self) (a .table .now) (a .word) (w .result) (q .pre .0) (w .ensures), goes-on (a .self) (a .table .now) (a .word) (w .result) (q .pre .0) (w .ensures))
+    let w = c .before .before .before .way-of in (
+      in-table (a .self) (a .table .now) (a .word) (w .result) (q .pre .0) (w .ensures),
+      goes-on (a .self) (a .table .now) (a .word) (w .result) (q .pre .0) (w .ensures),
+    )
 
 added-where-requires : tie.Need-added-where-requires
 added-where-requires c κs =
@@ -59,11 +62,12 @@ same-length-2 c = search needs
 
 returns-2 : tie.Need-returns-2
 returns-2 c =
-    let q = c .before .before .before .before .before .before .before .before .before .before .before in
+    let m = c .before .before .before .before .before .before in
+    let q = m .before .before .before .before .before in
     let a = q .args in
-    let w = c .before .before .before .before .before .before .before .before .way-of in
+    let w = m .before .before .way-of in
     let p = c .before .before .before .before .push-way in
-    let there : endsAt (a .word) (w .result .key) (w .result .stage) ≡ false = sym (c .before .before .before .before .before .before .before .ends-at .ensures) ∙ c .before .before .before .before .before .before .if1 .left in
+    let there : endsAt (a .word) (w .result .key) (w .result .stage) ≡ false = sym (m .before .ends-at .ensures) ∙ m .if1 .left in
     let is = absent-outcome (a .self) (a .table .now) (a .word) (w .result) (q .pre .0) (w .ensures) (p .result) (p .ensures) (q .pre .1) there in
     (rw is (c .before .before .added-where .ensures .0), rw is (c .before .before .added-where .ensures .1))
 

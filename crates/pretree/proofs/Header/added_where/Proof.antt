@@ -21,7 +21,8 @@ refused-requires c κs = search needs
 returns : tie.Need-returns
 unfolding outcomeWhere
 returns c =
-    let damage : isDamage (c .before .before .before .before .args .p .stage) ≡ true = sym (c .before .before .is-damaged .ensures) ∙ c .before .if1 .taken in
+    let q = c .before .before in
+    let damage : isDamage (q .before .before .args .p .stage) ≡ true = sym (q .is-damaged .ensures) ∙ c .before .if1 .taken in
     (simp (damage, c .refused .ensures), simp damage)
 
 -- the push ended without damage
@@ -41,7 +42,8 @@ returns-2 : tie.Need-returns-2
 unfolding outcomeWhere
 returns-2 c =
     let full = eq-eqb _ _ (c .before .if2 .taken ∙ c .before .before .before .capacity .ensures) in
-    (simp (fine (c .before .before .before .before .before), full, c .refused2 .ensures), simp (fine (c .before .before .before .before .before), full))
+    let unbroken = fine (c .before .before .before .before .before) in
+    (simp (unbroken, full, c .refused2 .ensures), simp (unbroken, full))
 
 -- and there is room
 room : (c : tie.Else2) → let a = c .before .before .before .before .before .before .before .args in a .self .count ≡ capacity (a .table .now) → ⊥
@@ -74,8 +76,11 @@ same-length-2 c = search needs
 returns-3 : tie.Need-returns-3
 unfolding outcomeWhere
 returns-3 c =
-    let not-full = ne-eqb _ _ (room (c .before .before .before .before .before .before .before)) in
-    (simp (fine (c .before .before .before .before .before .before .before .before .before .before .before), not-full, c .answered .ensures, c .before .rows .ensures, add-one), simp (fine (c .before .before .before .before .before .before .before .before .before .before .before), not-full, c .before .before .before .before .before .grow .ensures))
+    let unbroken = fine (c .before .before .before .before .before .before .before .before .before .before .before) in
+    let not-full = ne-eqb _ _ (room (c .before .before .before .before .before .before .before)) in (
+      simp (unbroken, not-full, c .answered .ensures, c .before .rows .ensures, add-one),
+      simp (unbroken, not-full, c .before .before .before .before .before .grow .ensures),
+    )
 
 pub added-where-spec : {M : Type 1} → statement M
 added-where-spec =

@@ -62,10 +62,11 @@ loop-again c =
     let q = c .before .before .before .before .before .before .before .before .before .before in
     let a = q .before .before .before .args in
     let l = q .before .loop in
-    let below : a .end + (l .left - 1 - a .end) ≡ l .left - 1 = omega arith in (
+    let below : a .end + (l .left - 1 - a .end) ≡ l .left - 1 = omega arith in
+    let linked = c .before .before .before .before .before in (
       omega arith,
       omega arith,
-      rw (c .before .before .before .put-entry .ensures, c .before .before .before .before .before .link-at .ensures, c .before .before .before .before .before .before .before .before .row-at .ensures)
+      rw (c .before .before .before .put-entry .ensures, linked .link-at .ensures, linked .before .before .before .row-at .ensures)
           (rw below at (keeps-push _ _ _ _ _ _ _ _ _ (ready q))),
     )
 

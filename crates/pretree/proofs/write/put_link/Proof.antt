@@ -1,3 +1,4 @@
+-- Row i is below the capacity, so its words are in the table.
 use native.Mathlib.Omega.{arith}
 use Rattle.pretree.specs.Table.{capacity, withLink}
 use Rattle.pretree.proofs.Writing.{bit-of-side}

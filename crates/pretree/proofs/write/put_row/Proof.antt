@@ -1,3 +1,4 @@
+-- Row i is below the capacity, so its words are in the table.
 use native.Mathlib.Omega.{arith}
 use Prim.Native.Nat.{ℕ, suc, _+_, _*_}
 use mathlib.Core.Path.{_≡_}
