@@ -23,7 +23,7 @@ returns : tie.Need-returns
 unfolding firstReply
 returns c =
     let a = c .before .before .before .before .args in
-    let wrong : wrong-header (a .self) (a .table .now) ≡ true = cc in
+    let wrong : wrong-header (a .self) (a .table .now) ≡ true = sym (c .before .before .is-wrong .ensures) ∙ c .before .if1 .taken in
     simp (wrong, c .refused .ensures)
 
 start-requires : tie.Need-start-requires
@@ -32,13 +32,13 @@ start-requires c κs = search needs
 stayed-requires : tie.Need-stayed-requires
 stayed-requires c κs =
     let a = c .before .before .before .before .args in
-    let ok : RightHeader (a .self) (a .table .now) = right-header (a .self) (a .table .now) (cc) in
+    let ok : RightHeader (a .self) (a .table .now) = right-header (a .self) (a .table .now) (sym (c .before .before .is-wrong .ensures) ∙ c .before .if1 .left) in
     rw (c .start .ensures) (root-begun (a .self) (a .table .now) (ok .at-most-32) (ok .has-room))
 
 rows-requires : tie.Need-rows-requires
 rows-requires c κs =
     let a = c .before .before .before .before .before .args in
-    let ok : RightHeader (a .self) (a .table .now) = right-header (a .self) (a .table .now) (cc) in
+    let ok : RightHeader (a .self) (a .table .now) = right-header (a .self) (a .table .now) (sym (c .before .before .before .is-wrong .ensures) ∙ c .before .before .if1 .left) in
     let fell : Fell (rowAt (a .table .now)) staying (started (a .self)) (c .stayed .result) = rw (c .before .start .ensures) at (c .stayed .ensures) in
     (from-root (a .self) (a .table .now) staying (c .stayed .result) fell .walking .fits, ok .at-most-32)
 
@@ -50,7 +50,7 @@ returns-2 c =
     let q = c .before .before in
     let a = q .before .before .before .before .before .args in
     let fell : Fell (rowAt (a .table .now)) staying (started (a .self)) (q .stayed .result) = rw (q .before .start .ensures) at (q .stayed .ensures) in
-    let gone = first-at (a .self) (a .table .now) (cc) (q .stayed .result) fell in
+    let gone = first-at (a .self) (a .table .now) (sym (q .before .before .before .is-wrong .ensures) ∙ q .before .before .if1 .left) (q .stayed .result) fell in
     c .word-at .ensures ∙ rw (c .before .rows .ensures) (sym gone)
 
 pub first-spec : {M : Type 1} → statement M

@@ -1,6 +1,6 @@
 -- The loop keeps what `Walking` says of the walk; the number that falls is the bits left, and one more while the walk is on its way.
 use Prim.Native.Nat.{ℕ, _≤_, _<_}
-use mathlib.Core.Path.{_≡_, refl}
+use mathlib.Core.Path.{_≡_, refl, sym, _∙_}
 use mathlib.Core.Bool.{true, false}
 use native.Mathlib.Nat.{le-trans, lt-of-lt-of-le, le-refl}
 use borrow.Author.Needs.{needs}
@@ -33,7 +33,7 @@ is-on-requires c κs = search needs
 row-at-requires : tie.Need-row-at-requires Inv-loop μ-loop
 row-at-requires c κs =
     let l = c .before .before .loop in
-    lt-of-lt-of-le (in-use _ _ _ _ _ (l .w) (cc) (l .inv .1)) (l .inv .0 .has-room)
+    lt-of-lt-of-le (in-use _ _ _ _ _ (l .w) (sym (c .before .is-on .ensures) ∙ c .if1 .taken) (l .inv .1)) (l .inv .0 .has-room)
 
 down-turn-requires : tie.Need-down-turn-requires Inv-loop μ-loop
 down-turn-requires c κs = search needs
@@ -46,7 +46,7 @@ met-requires c κs =
 loop-less : tie.Need-loop-less Inv-loop μ-loop
 loop-less c =
     let l = c .before .before .before .before .before .loop in
-    rw (c .met .ensures) (falls (l .w) _ _ (cc))
+    rw (c .met .ensures) (falls (l .w) _ _ (sym (c .before .before .before .before .is-on .ensures) ∙ c .before .before .before .if1 .taken))
 
 loop-again : tie.Need-loop-again Inv-loop μ-loop
 loop-again c =
@@ -55,14 +55,14 @@ loop-again c =
     let a = p .before .before .args in (
       l .inv .0,
       rw (c .met .ensures, c .before .down-turn .ensures, c .before .before .row-at .ensures)
-          (keeps _ _ _ _ _ (l .w) (cc) (l .inv .1) _ (λ m e. down-says (rowAt (a .table .now)) (a .start .count) m (l .w .row) _ (sideOf (a .first)))),
+          (keeps _ _ _ _ _ (l .w) (sym (c .before .before .before .before .is-on .ensures) ∙ c .before .before .before .if1 .taken) (l .inv .1) _ (λ m e. down-says (rowAt (a .table .now)) (a .start .count) m (l .w .row) _ (sideOf (a .first)))),
       rw (c .met .ensures) (unmoved (a .start) (l .w) _ _ (l .inv .1 .fits) (l .inv .2)),
     )
 
 returns : tie.Need-returns Inv-loop μ-loop
 returns c =
     let l = c .before .before .loop in
-    record { walked = record { walking = l .inv .1; ended = cc }; unmoved = l .inv .2 }
+    record { walked = record { walking = l .inv .1; ended = sym (c .before .is-on .ensures) ∙ c .if1 .left }; unmoved = l .inv .2 }
 
 pub fallen-spec : {M : Type 1} → statement M
 fallen-spec =

@@ -1,6 +1,6 @@
 -- One row, at which the rule stops.
 use Prim.Native.Nat.{ℕ, _≤_, _<_}
-use mathlib.Core.Path.{_≡_, refl}
+use mathlib.Core.Path.{_≡_, refl, sym, _∙_}
 use mathlib.Core.Bool.{true, false}
 use native.Mathlib.Nat.{lt-of-lt-of-le, le-refl}
 use borrow.Author.Tests.{not-true, not-false}
@@ -24,13 +24,13 @@ is-on-requires c κs = search needs
 returns : tie.Need-returns
 returns c =
     let a = c .before .before .before .args in
-    let off : isOn (a .start .stage) ≡ false = cc (not-true (c .before .is-on .result) (c .if1 .taken)) in
+    let off : isOn (a .start .stage) ≡ false = sym (c .before .is-on .ensures) ∙ not-true (c .before .is-on .result) (c .if1 .taken) in
     record { walked = record { walking = begins-there (a .table .now) staying (a .start) (search needs); ended = off }; unmoved = λ e. (refl, refl) }
 
 row-at-requires : tie.Need-row-at-requires
 row-at-requires c κs =
     let a = c .before .before .before .args in
-    let on : isOn (a .start .stage) ≡ true = cc (not-false (c .before .is-on .result) (c .if1 .left)) in
+    let on : isOn (a .start .stage) ≡ true = sym (c .before .is-on .ensures) ∙ not-false (c .before .is-on .result) (c .if1 .left) in
     let began = begins-there (a .table .now) staying (a .start) (search needs) in
     lt-of-lt-of-le (in-use _ _ _ _ _ (a .start) on began) (c .before .before .before .pre .has-room)
 
@@ -41,7 +41,7 @@ returns-2 : tie.Need-returns-2
 returns-2 c =
     let p = c .before .before .before in
     let a = p .before .before .args in
-    let on : isOn (a .start .stage) ≡ true = cc (not-false (p .is-on .result) (c .before .before .if1 .left)) in
+    let on : isOn (a .start .stage) ≡ true = sym (p .is-on .ensures) ∙ not-false (p .is-on .result) (c .before .before .if1 .left) in
     let began = begins-there (a .table .now) staying (a .start) (search needs) in
     rw (c .met .ensures, c .before .row-at .ensures)
     (record {

@@ -1,6 +1,6 @@
 -- The loop keeps what `Walking` says of the walk; the number that falls is the bits left, and one more while the walk is on its way.
 use Prim.Native.Nat.{ℕ, _≤_, _<_}
-use mathlib.Core.Path.{_≡_, refl}
+use mathlib.Core.Path.{_≡_, refl, sym, _∙_}
 use mathlib.Core.Bool.{true, false}
 use native.Mathlib.Nat.{le-trans, lt-of-lt-of-le}
 use borrow.Author.Needs.{needs}
@@ -40,7 +40,7 @@ is-on-requires c κs = search needs
 row-at-requires : tie.Need-row-at-requires Inv-loop μ-loop
 row-at-requires c κs =
     let l = c .before .before .loop in
-    lt-of-lt-of-le (in-use _ _ _ _ _ (l .w) (cc) (l .inv .1)) (l .inv .0 .has-room)
+    lt-of-lt-of-le (in-use _ _ _ _ _ (l .w) (sym (c .before .is-on .ensures) ∙ c .if1 .taken) (l .inv .1)) (l .inv .0 .has-room)
 
 seek-turn-requires : tie.Need-seek-turn-requires Inv-loop μ-loop
 seek-turn-requires c κs =
@@ -55,20 +55,20 @@ met-requires c κs =
 loop-less : tie.Need-loop-less Inv-loop μ-loop
 loop-less c =
     let l = c .before .before .before .before .before .loop in
-    rw (c .met .ensures) (falls (l .w) _ _ (cc))
+    rw (c .met .ensures) (falls (l .w) _ _ (sym (c .before .before .before .before .is-on .ensures) ∙ c .before .before .before .if1 .taken))
 
 loop-again : tie.Need-loop-again Inv-loop μ-loop
 loop-again c =
     let l = c .before .before .before .before .before .loop in (
       l .inv .0,
       rw (c .met .ensures, c .before .seek-turn .ensures, c .before .before .row-at .ensures)
-          (keeps _ _ _ _ _ (l .w) (cc) (l .inv .1) _ (λ m e. seek-says _ _ _ m _ _ _ e)),
+          (keeps _ _ _ _ _ (l .w) (sym (c .before .before .before .before .is-on .ensures) ∙ c .before .before .before .if1 .taken) (l .inv .1) _ (λ m e. seek-says _ _ _ m _ _ _ e)),
     )
 
 returns : tie.Need-returns Inv-loop μ-loop
 returns c =
     let l = c .before .before .loop in
-    record { walking = rw (c .before .before .before .start .ensures) at (l .inv .1); ended = cc }
+    record { walking = rw (c .before .before .before .start .ensures) at (l .inv .1); ended = sym (c .before .is-on .ensures) ∙ c .if1 .left }
 
 pub way-of-spec : {M : Type 1} → statement M
 way-of-spec =
