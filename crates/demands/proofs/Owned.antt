@@ -4,7 +4,7 @@
 use Prim.Native.Nat.{ℕ, zero, suc, _+_, _*_, _-_, _≤_, _<_, pred}
 use mathlib.Core.Path.{_≡_, refl, ap, _∙_}
 use mathlib.Core.Bool.{Bool, true, false, not, _&&_, _||_, false≢true}
-use mathlib.Core.List.{List, [], _∷_, _++_}
+use mathlib.Core.List.{List, _++_}
 use native.Mathlib.Omega.{arith}
 use lib.Dec.{ltb, eqb}
 use lib.ListN.{length, getD, drop, replicate, set, length-append, length-drop, length-replicate, length-set}
@@ -44,7 +44,8 @@ Passed c w = All (λ s. s .at < c) (w .passed)
 
 module _ (c : ℕ) where
   module _ (rows : ℕ → Row) (n : ℕ) (fits : n ≤ c) where
-    row-in-use : (m path low i : ℕ) (e : Entry) (l r : Tree) → InUse c l → InUse c r → InUse c (if judged n m path low i (rows i) then row i e l r else damaged)
+    row-in-use : (m path low i : ℕ) (e : Entry) (l r : Tree) → InUse c l → InUse c r
+        → InUse c (if judged n m path low i (rows i) then row i e l r else damaged)
     unfolding InUse
     row-in-use m path low i e l r u v = by-cases (judged n m path low i (rows i)) refl
       where
@@ -158,7 +159,8 @@ module _ (c : ℕ) where
       stretch : Way
       stretch = way (down left) (w .bits) (w .end)
 
-      by-cases : (b : Bool) → ends-at k w ≡ b → erasing-by w stretch (joined w stretch) b .present ≡ true → Erased (erasing-by w stretch (joined w stretch) b)
+      by-cases : (b : Bool) → ends-at k w ≡ b → erasing-by w stretch (joined w stretch) b .present ≡ true
+          → Erased (erasing-by w stretch (joined w stretch) b)
       by-cases false absent there = absurd (false≢true there)
       by-cases true ends there =
           let us = way-in-use (following k) m t u in
@@ -246,7 +248,8 @@ module _ (c : ℕ) where
 
       by-cases : (b : Bool) → Kept unlinked (if b then moved else unlinked)
       by-cases true =
-          same-twice (3 * c) (row-kept (e .hole) (rowAt unlinked last) unlinked (erased .hole)) (hooking-kept (above-end second) (e .hole) into-hole hook)
+          same-twice (3 * c) (row-kept (e .hole) (rowAt unlinked last) unlinked (erased .hole))
+          (hooking-kept (above-end second) (e .hole) into-hole hook)
       by-cases false = same-all (3 * c)
 
 -- what a test says may be used on its side

@@ -1,12 +1,13 @@
--- Demand 1: the proofs of specs/Refusals.antt.
-use Prim.Native.Nat.{ℕ, zero, suc, _+_, _*_, _^_, _≤_, _<_, pred}
+-- Demand 1: the proofs of specs/Refusals.antt. The tests of each call are gone through once, from the first down ("Order: 9, 1, 2, 3, 4, then
+-- 7 or 8, then 5. For `list`: 2, 4, 6."), and all that the demand says of its number is read off what is seen on the way.
+use Prim.Native.Nat.{ℕ, suc, _*_, _^_, _<_, pred}
 use mathlib.Core.Path.{_≡_, refl, sym, ap, _∙_}
 use mathlib.Core.Logic.{_↔_, Iff·symm, _⊎_, inl, inr}
 use mathlib.Core.Bool.{Bool, true, false, not, _&&_, _||_, false≢true}
-use mathlib.Core.List.{List, [], _∷_, _++_}
+use mathlib.Core.List.{List, [], _++_}
 use native.Mathlib.Omega.{arith}
 use native.Mathlib.Nat.{add-zero}
-use lib.Dec.{ltb, leb, eqb}
+use lib.Dec.{ltb, eqb}
 use lib.ListN.{length, drop, replicate}
 use borrow.Author.Tests.{eqb-true, eqb-false}
 use Rattle.ordered.specs.Such.{if_then_else_, Perhaps, no-such, such, only-if}
@@ -30,8 +31,8 @@ use Rattle.pretree.specs.Sound.{Sound, isSound}
 use Rattle.pretree.specs.Add.{Outcome, grown, addOutcome}
 use Rattle.pretree.specs.Del.{secondWay, astray, shrunk, delOutcome}
 use Rattle.demands.specs.Call.{Call, new, add, del, has, next, prev, gap, first, last, audit, list, After, after}
-use Rattle.demands.specs.Refusals.{waysOf, Wrong-width, Wrong-header, Too-wide, EndsAt, Moves, Astray, for-each, GivenWhen, Given, Refusal, Untouched, SameFrom, numberAfter, Refusals, OneOutcome}
-use Rattle.demands.specs.Refusals.{Damage as Damage-on}
+use Rattle.demands.specs.Refusals.{waysOf, Wrong-width, Wrong-header, Too-wide, Damage as Damage-on, EndsAt, for-each, GivenWhen, Given}
+use Rattle.demands.specs.Refusals.{Refusal, Untouched, SameFrom, numberAfter, Refusals, OneOutcome}
 use Rattle.demands.proofs.SoundIs.{sound-is}
 use Rattle.demands.proofs.Owned.{same-all, new-kept, add-kept, del-kept, list-kept}
 use Rattle.demands.proofs.Whether.{fails, holds, never, both-tested, either-tested, not-tested, less-tested, at-most-tested, equal-tested}
@@ -43,12 +44,17 @@ Before when n = (m : ℕ) → m < n → ¬ when m
 -- What is seen of a call where the refusals are for `when`: the first of them, or an answer where there is none.
 data Seen (when : ℕ → Type 0) (h : Header) (table buffer : List ℕ) (ways : List Way) (a : After) : Type 0 where
   refusing :
-      Refusal (numberOf (a .reply .answer)) → when (numberOf (a .reply .answer)) → Before when (numberOf (a .reply .answer)) → Untouched h table buffer a → a .reply .rows ≡ 0
-      → Seen when h table buffer ways a
+      Refusal (numberOf (a .reply .answer)) → when (numberOf (a .reply .answer)) → Before when (numberOf (a .reply .answer))
+      → Untouched h table buffer a → a .reply .rows ≡ 0 → Seen when h table buffer ways a
   answering :
       ¬ Refusal (numberOf (a .reply .answer)) → Before when 7
       → ((numberOf (a .reply .answer) ≡ 7) ⊎ (numberOf (a .reply .answer) ≡ 8) → Untouched h table buffer a × (a .reply .rows ≡ rowsOf ways))
       → Seen when h table buffer ways a
+
+-- what only replies leaves all else
+untouched : {h : Header} {table buffer : List ℕ} {a : Answer} {n : ℕ}
+    → Untouched h table buffer (record { reply = answered h a n; table = table; buffer = buffer })
+untouched = record { same-header = refl; same-table = refl; same-buffer = refl; none-moved = refl }
 
 module _ {when : ℕ → Type 0} where
   further : (n : ℕ) → Before when n → ¬ when n → Before when (suc n)
@@ -72,18 +78,18 @@ module _ {when : ℕ → Type 0} where
     refuse :
         (a : Answer) → Refusal (numberOf a) → when (numberOf a) → Before when (numberOf a)
         → Seen when h table buffer ways (record { reply = refused h a; table = table; buffer = buffer })
-    refuse a number there before = refusing number there before (record { same-header = refl; same-table = refl; same-buffer = refl; none-moved = refl }) refl
+    refuse a number there before = refusing number there before untouched refl
 
     -- an answer that changes nothing
     answer :
         (a : Answer) → ¬ Refusal (numberOf a) → {n : ℕ} → n ≡ rowsOf ways → Before when 7
         → Seen when h table buffer ways (record { reply = answered h a n; table = table; buffer = buffer })
-    answer a number true-count no-refusal =
-        answering number no-refusal (λ which. (record { same-header = refl; same-table = refl; same-buffer = refl; none-moved = refl }, true-count))
+    answer a number true-count no-refusal = answering number no-refusal (λ which. (untouched, true-count))
 
     -- answer 0
     zero-seen : (a : After) → numberOf (a .reply .answer) ≡ 0 → Before when 7 → Seen when h table buffer ways a
-    zero-seen a number no-refusal = answering (λ r. omega arith) no-refusal (elim [ inl seven ↦ absurd (omega arith) | inr eight ↦ absurd (omega arith) ])
+    zero-seen a number no-refusal =
+        answering (λ r. omega arith) no-refusal (elim [ inl seven ↦ absurd (omega arith) | inr eight ↦ absurd (omega arith) ])
 
 from-one : (when : ℕ → Type 0) → ¬ when 0 → Before when 1
 from-one when not-zero = further 0 (λ m lower there. omega arith) not-zero
@@ -122,7 +128,8 @@ module _ (three : Type 0) (h : Header) (table buffer : List ℕ) (wide : Bool) (
       found (such x) number = omega (arith, zero-number x)
       found no-such number = omega arith
 
-new-seen : (W : ℕ) (h : Header) (table buffer : List ℕ) → Seen (GivenWhen (new W) h table buffer) h table buffer [] (after (new W) h table buffer)
+new-seen : (W : ℕ) (h : Header) (table buffer : List ℕ)
+    → Seen (GivenWhen (new W) h table buffer) h table buffer [] (after (new W) h table buffer)
 unfolding after GivenWhen for-each numberOf newReply newTable
 new-seen W h table buffer = by-cases (wrong-width W) (wrong-width-tested W)
   where
@@ -182,9 +189,11 @@ add-seen k h table buffer =
         else if eqb (h .count) (capacity table) then record { reply = refused h Full; table = table }
         else more)
     by-presence before-5 true there =
-        answer AlreadyThere (λ r. omega arith) (sym (add-zero (rows (a .rows-read)))) (further 6 (further 5 before-5 (λ full. false≢true (sym (full .0) ∙ there))) (λ x. x))
+        answer AlreadyThere (λ r. omega arith) (sym (add-zero (rows (a .rows-read))))
+        (further 6 (further 5 before-5 (λ full. false≢true (sym (full .0) ∙ there))) (λ x. x))
     by-presence before-5 false absent =
-        judge P 5 (both-tested true (eqb (h .count) (capacity table)) (holds absent) (equal-tested (h .count) (capacity table))) before-5 (refuse Full (omega arith))
+        judge P 5 (both-tested true (eqb (h .count) (capacity table)) (holds absent) (equal-tested (h .count) (capacity table))) before-5
+        (refuse Full (omega arith))
         (λ before-6. zero-seen (record { reply = more .reply; table = more .table; buffer = buffer }) refl (further 6 before-6 (λ x. x)))
 
 audit-seen : (h : Header) (table buffer : List ℕ) → Seen (GivenWhen audit h table buffer) h table buffer [] (after audit h table buffer)
@@ -336,7 +345,8 @@ del-seen k h table buffer =
         (λ before-5.
         zero-seen (record { reply = less .reply; table = less .table; buffer = buffer }) refl (further 6 (further 5 before-5 (λ x. x)) (λ x. x)))
 
-seen : (c : Call) (h : Header) (table buffer : List ℕ) → Seen (GivenWhen c h table buffer) h table buffer (waysOf c h table) (after c h table buffer)
+seen : (c : Call) (h : Header) (table buffer : List ℕ)
+    → Seen (GivenWhen c h table buffer) h table buffer (waysOf c h table) (after c h table buffer)
 unfolding numberOf after GivenWhen waysOf hasReply nextReply prevReply gapReply firstReply lastReply
 seen (new W) h table buffer = new-seen W h table buffer
 seen (add k) h table buffer = add-seen k h table buffer
@@ -381,34 +391,27 @@ module _ (c : Call) (h : Header) (table buffer : List ℕ) where
   untouched-seven-eight (refusing number there before untouched counts) (inr eight) = absurd (omega arith)
   untouched-seven-eight (answering number no-refusal changes) which = changes which
 
--- what a call writes is in its rows
-rows-kept : (c : Call) (h : Header) (table buffer : List ℕ) → SameFrom (3 * capacity table) table (after c h table buffer .table)
-unfolding after
-rows-kept (new W) h table buffer = new-kept table W
-rows-kept (add k) h table buffer = add-kept h table k
-rows-kept (del k) h table buffer = del-kept h table k
-rows-kept (has k) h table buffer = same-all (3 * capacity table)
-rows-kept (next k) h table buffer = same-all (3 * capacity table)
-rows-kept (prev k) h table buffer = same-all (3 * capacity table)
-rows-kept (gap k) h table buffer = same-all (3 * capacity table)
-rows-kept first h table buffer = same-all (3 * capacity table)
-rows-kept last h table buffer = same-all (3 * capacity table)
-rows-kept audit h table buffer = same-all (3 * capacity table)
-rows-kept list h table buffer = same-all (3 * capacity table)
+-- what a call writes is in its rows, or in the listing
+module _ (h : Header) (table buffer : List ℕ) where
+  abbrev Kept : List ℕ → List ℕ → Type 0
+  Kept table′ buffer′ = SameFrom (3 * capacity table) table table′ × SameFrom (h .count) buffer buffer′
 
-buffer-kept : (c : Call) (h : Header) (table buffer : List ℕ) → SameFrom (h .count) buffer (after c h table buffer .buffer)
-unfolding after
-buffer-kept (new W) h table buffer = same-all (h .count)
-buffer-kept (add k) h table buffer = same-all (h .count)
-buffer-kept (del k) h table buffer = same-all (h .count)
-buffer-kept (has k) h table buffer = same-all (h .count)
-buffer-kept (next k) h table buffer = same-all (h .count)
-buffer-kept (prev k) h table buffer = same-all (h .count)
-buffer-kept (gap k) h table buffer = same-all (h .count)
-buffer-kept first h table buffer = same-all (h .count)
-buffer-kept last h table buffer = same-all (h .count)
-buffer-kept audit h table buffer = same-all (h .count)
-buffer-kept list h table buffer = list-kept h table buffer
+  as-it-was : Kept table buffer
+  as-it-was = (same-all (3 * capacity table), same-all (h .count))
+
+  kept : (c : Call) → Kept (after c h table buffer .table) (after c h table buffer .buffer)
+  unfolding after
+  kept (new W) = (new-kept table W, same-all (h .count))
+  kept (add k) = (add-kept h table k, same-all (h .count))
+  kept (del k) = (del-kept h table k, same-all (h .count))
+  kept (has k) = as-it-was
+  kept (next k) = as-it-was
+  kept (prev k) = as-it-was
+  kept (gap k) = as-it-was
+  kept first = as-it-was
+  kept last = as-it-was
+  kept audit = as-it-was
+  kept list = (same-all (3 * capacity table), list-kept h table buffer)
 
 pub refusals : (c : Call) (h : Header) (table buffer : List ℕ) → Refusals c h table buffer
 refusals c h table buffer =
@@ -417,8 +420,8 @@ refusals c h table buffer =
       given-exactly = exactly c h table buffer here;
       refusal = untouched-refusal c h table buffer here;
       seven-eight = untouched-seven-eight c h table buffer here;
-      past-the-rows = rows-kept c h table buffer;
-      past-the-listing = buffer-kept c h table buffer;
+      past-the-rows = kept h table buffer c .0;
+      past-the-listing = kept h table buffer c .1;
     }
 
 pub one-outcome : OneOutcome
