@@ -8,3 +8,5 @@
 pub mod Call
 pub mod Numbers
 pub mod SoundIs
+pub mod Expected
+pub mod Demand2
