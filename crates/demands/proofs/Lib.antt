@@ -5,3 +5,4 @@ pub mod Meeting
 pub mod Tested
 pub mod SoundIs
 pub mod Written
+pub mod Answered
