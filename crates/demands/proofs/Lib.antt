@@ -6,3 +6,5 @@ pub mod Tested
 pub mod SoundIs
 pub mod Written
 pub mod Answered
+pub mod Spelled
+pub mod Writes
