@@ -8,3 +8,4 @@ pub mod Written
 pub mod Answered
 pub mod Spelled
 pub mod Writes
+pub mod Rewritten
