@@ -9,3 +9,4 @@ pub mod Answered
 pub mod Spelled
 pub mod Writes
 pub mod Rewritten
+pub mod Added

@@ -8,7 +8,7 @@ use mathlib.Core.List.{List, [], _∷_, _++_}
 use mathlib.Core.List.{List·Memᴰ·head, List·Memᴰ·tail, Memᴰ·append-left, Memᴰ·append-right, Memᴰ·cast}
 use native.Mathlib.Omega.{arith}
 use lib.Dec.{eqb}
-use lib.ListN.{length}
+use lib.ListN.{length, getD, set}
 use lib.Seq.{set-getD}
 use borrow.Author.Tests.{eq-eqb}
 use Rattle.ordered.specs.Such.{if_then_else_, Perhaps, no-such, such, first-of, last-such, anything}
@@ -273,3 +273,25 @@ module _ (n n′ : ℕ) (u u′ : Tree) (table : List ℕ) (rows′ : ℕ → Ro
               ));
           on-spelled = end-hooked (one-place {s = t} e′ p) (once-on i e (s .turn) l r g once) (o .on-spelled) so′;
         })
+
+-- the rows of a way that take their own entries stay as they are
+pub unchanged-taken : (n : ℕ) (ss : List Step) (u : Tree) (table : List ℕ) → Spelled (rowAt table) n (chained ss u) → taking (taken-by ss) table ≡ table
+unfolding chained taking withKey rowAt
+unchanged-taken n [] u table spelled = refl
+unchanged-taken n (s ∷ ss) u table spelled =
+    let o : Turned (rowAt table) n (s .at) (s .entry) (s .turn) (s .left-part) (s .right-part) (chained ss u) =
+    opened-turn (s .at) (s .entry) (s .turn) (s .left-part) (s .right-part) (chained ss u) spelled in
+    let own : getD table (3 * s .at) 0 ≡ s .entry .key =
+    ap (λ r. r .entry .key) (o .as-told) ∙ own-key (s .entry) (s .turn) (s .left-part) (s .right-part) (chained ss u) in
+    ap (λ k. taking (taken-by ss) (set table (3 * s .at) k)) (sym own) ∙ ap (taking (taken-by ss)) (set-getD table (3 * s .at) 0)
+    ∙ unchanged-taken n ss u table (o .on-spelled)
+  where
+    own-key : (e : Entry) (s : Side) (l r g : Tree) → turned-row e s l r g .entry .key ≡ e .key
+    own-key e left l r g = refl
+    own-key e right l r g = refl
+
+-- the entries of one way after another
+pub taking-both : (ss us : List Step) (table : List ℕ) → taking (taken-by (ss ++ us)) table ≡ taking (taken-by us) (taking (taken-by ss) table)
+unfolding taking
+taking-both [] us table = refl
+taking-both (s ∷ ss) us table = taking-both ss us (withKey (s .at) (s .entry .key) table)
