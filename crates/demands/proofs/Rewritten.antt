@@ -3,7 +3,7 @@
 -- Document 01: "that row takes k and its old key is pushed down [..], taking each next row's place in turn"; "each row taking the key below".
 use Prim.Native.Nat.{ℕ, zero, suc, _+_, _*_, _≤_, _<_}
 use mathlib.Core.Path.{_≡_, refl, sym, ap, ap₂, _∙_}
-use mathlib.Core.Bool.{Bool, true, false}
+use mathlib.Core.Bool.{Bool, true, false, false≢true}
 use mathlib.Core.List.{List, [], _∷_, _++_}
 use mathlib.Core.List.{List·Memᴰ·head, List·Memᴰ·tail, Memᴰ·append-left, Memᴰ·append-right, Memᴰ·cast}
 use native.Mathlib.Omega.{arith}
@@ -115,6 +115,9 @@ renumbered : (e : Entry) (s : Side) (l r g g′ : Tree) → numberAt g′ ≡ nu
 renumbered e left l r g g′ same = rw same
 renumbered e right l r g g′ same = rw same
 
+pub none-part : Part none
+none-part = record { not-root = λ there e. absurd (false≢true there) }
+
 -- the same rows, with other entries
 pub data Same-places : List Step → List Step → Type 0 where
   no-place : Same-places [] []
@@ -152,6 +155,17 @@ unfolding chained
 first-place no-place u = (refl, refl)
 first-place (one-place {s} {ss} {us} e p) u =
     root-place (s .at) (s .entry) e (s .turn) (s .left-part) (s .right-part) (chained ss u) (chained us u)
+
+turned-numbers : (i : ℕ) (e e′ : Entry) (s : Side) (l r g g′ : Tree) → numbers g′ ≡ numbers g → numbers (turned i e′ s l r g′) ≡ numbers (turned i e s l r g)
+unfolding numbers
+turned-numbers i e e′ left l r g g′ same = rw same
+turned-numbers i e e′ right l r g g′ same = rw same
+
+pub same-numbers : {ss us : List Step} → Same-places ss us → (u : Tree) → numbers (chained us u) ≡ numbers (chained ss u)
+unfolding chained
+same-numbers no-place u = refl
+same-numbers (one-place {s} {ss} {us} e p) u =
+    turned-numbers (s .at) (s .entry) e (s .turn) (s .left-part) (s .right-part) (chained ss u) (chained us u) (same-numbers p u)
 
 part-so : {t t′ : Tree} → (numberAt t′ ≡ numberAt t) × (exists t′ ≡ exists t) → Part t → Part t′
 part-so same p = record { not-root = λ there e. p .not-root (sym (same .1) ∙ there) (sym (same .0) ∙ e) }
