@@ -10,3 +10,4 @@ pub mod Spelled
 pub mod Writes
 pub mod Rewritten
 pub mod Added
+pub mod Removed

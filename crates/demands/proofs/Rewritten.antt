@@ -10,7 +10,7 @@ use native.Mathlib.Omega.{arith}
 use lib.Dec.{eqb}
 use lib.ListN.{length, getD, set}
 use lib.Seq.{set-getD}
-use borrow.Author.Tests.{eq-eqb}
+use borrow.Author.Tests.{eqb-true, eq-eqb}
 use Rattle.ordered.specs.Such.{if_then_else_, Perhaps, no-such, such, first-of, last-such, anything}
 use Rattle.ordered.specs.Word.{Side, left, right, other}
 use Rattle.ordered.specs.Said.{_∈_}
@@ -21,7 +21,7 @@ use Rattle.ordered.specs.Grown.{linking as turned, linked as chained, taking as
 use Rattle.ordered.proofs.Parts.{All, none-all, one-all, If-such, last-such-one, first-of-such}
 use Rattle.ordered.proofs.Moves.{taken-by}
 use Rattle.pretree.specs.declared.Row.{Row}
-use Rattle.pretree.specs.Table.{rowAt, withKey}
+use Rattle.pretree.specs.Table.{rowAt, link, withKey}
 use Rattle.pretree.specs.Add.{taking, hooking}
 use Rattle.pretree.proofs.Writing.{key-length}
 use Rattle.demands.specs.Numbers.{numbers, often}
@@ -33,7 +33,7 @@ use Rattle.demands.proofs.Writes.{keyed, key-written, key-elsewhere, li
 abbrev pub Once : Tree → Type 0
 Once t = (j : ℕ) → often j (numbers t) ≤ 1
 
-in-often : {j : ℕ} {xs : List ℕ} → j ∈ xs → 1 ≤ often j xs
+pub in-often : {j : ℕ} {xs : List ℕ} → j ∈ xs → 1 ≤ often j xs
 unfolding often
 in-often {j} (List·Memᴰ·head {x} e) = rw (eq-eqb j x e) (omega arith)
 in-often (List·Memᴰ·tail there) = omega (arith, in-often there)
@@ -309,3 +309,58 @@ pub taking-both : (ss us : List Step) (table : List ℕ) → taking (taken-by (s
 unfolding taking
 taking-both [] us table = refl
 taking-both (s ∷ ss) us table = taking-both ss us (withKey (s .at) (s .entry .key) table)
+
+-- what stands in a tree stands at the end of a way or above it
+pub chained-often : (ss : List Step) (u : Tree) (j : ℕ) → often j (numbers (chained ss u)) ≡ often j (numbers (chained ss none)) + often j (numbers u)
+unfolding chained numbers often
+chained-often [] u j = omega arith
+chained-often (s ∷ ss) u j =
+    omega (
+      arith,
+      turned-often (s .at) (s .entry) (s .turn) (s .left-part) (s .right-part) (chained ss u) j,
+      turned-often (s .at) (s .entry) (s .turn) (s .left-part) (s .right-part) (chained ss none) j,
+      chained-often ss u j,
+    )
+
+module _ (rows : ℕ → Row) (n : ℕ) where
+  pub end-spelled : (ss : List Step) (u : Tree) → Spelled rows n (chained ss u) → Spelled rows n u
+  unfolding chained
+  end-spelled [] u spelled = spelled
+  end-spelled (s ∷ ss) u spelled =
+      end-spelled ss u (opened-turn (s .at) (s .entry) (s .turn) (s .left-part) (s .right-part) (chained ss u) spelled .on-spelled)
+
+  turned-link : (e : Entry) (s : Side) (l r g : Tree) → link (turned-row e s l r g) s ≡ numberAt g
+  turned-link e left l r g = refl
+  turned-link e right l r g = refl
+
+  -- the last row that a way passes names its end
+  pub data Hook-told (ss : List Step) (u : Tree) : Perhaps Step → Type 0 where
+    no-hook : ss ≡ [] → Hook-told ss u no-such
+    hook-told : {p : Step} → p .at ∈ numbers (chained ss none) → p .at < n → link (rows (p .at)) (p .turn) ≡ numberAt u → Hook-told ss u (such p)
+
+  pub hook-is : (ss : List Step) (u : Tree) → Spelled rows n (chained ss u) → Hook-told ss u (last-such anything ss)
+  unfolding chained last-such
+  hook-is [] u spelled = no-hook refl
+  hook-is (s ∷ []) u spelled =
+      let o : Turned rows n (s .at) (s .entry) (s .turn) (s .left-part) (s .right-part) u =
+      opened-turn (s .at) (s .entry) (s .turn) (s .left-part) (s .right-part) u spelled in
+      hook-told (at-in (s .at) (s .entry) (s .turn) (s .left-part) (s .right-part) none) (o .in-use)
+      (ap (λ x. link x (s .turn)) (o .as-told) ∙ turned-link (s .entry) (s .turn) (s .left-part) (s .right-part) u)
+  hook-is (s ∷ (t ∷ ss)) u spelled =
+      above (last-such anything (t ∷ ss))
+      (hook-is (t ∷ ss) u (opened-turn (s .at) (s .entry) (s .turn) (s .left-part) (s .right-part) (chained (t ∷ ss) u) spelled .on-spelled))
+    where
+      above : (q : Perhaps Step) → Hook-told (t ∷ ss) u q → Hook-told (s ∷ (t ∷ ss)) u (first-of q (such s))
+      above no-such (no-hook e) = let never : _≡_ {A = ℕ} 0 1 = cc in absurd (omega arith)
+      above (such p) (hook-told there in-use names) =
+          hook-told (on-in (s .at) (s .entry) (s .turn) (s .left-part) (s .right-part) (chained (t ∷ ss) none) there) in-use names
+
+-- a number that stands in a list, and one that doesn't
+pub often-in : (j : ℕ) (xs : List ℕ) → 1 ≤ often j xs → j ∈ xs
+unfolding often
+often-in j [] h = absurd (omega arith)
+often-in j (x ∷ xs) h = by-cases (eqb j x) refl h (often-in j xs)
+  where
+    by-cases : (b : Bool) → eqb j x ≡ b → 1 ≤ (if b then 1 else 0) + often j xs → (1 ≤ often j xs → j ∈ xs) → j ∈ x ∷ xs
+    by-cases true e h rest = List·Memᴰ·head (eqb-true j x e)
+    by-cases false e h rest = List·Memᴰ·tail (rest (omega arith))
