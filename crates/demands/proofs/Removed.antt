@@ -174,6 +174,70 @@ hooking-link (such q) v table j s differs = by-cases (eqb j (q .at)) refl
         ∙ beside (q .turn) s (rowAt table (q .at)) (differs q refl .1 (sym same)) ∙ ap (λ i. link (rowAt table i) s) (sym same)
     by-cases false e = ap (λ r. link r s) (link-elsewhere (q .at) table j (eqb-false j (q .at) e) (q .turn) v)
 
+-- what a row without parts tells
+record Leaf-told (rows : ℕ → Row) (n : ℕ) (u : Tree) : Type 0 where
+  in-use : numberAt u < n
+  inside : numberAt u ∈ numbers u
+  alone : (j : ℕ) → (j ≡ numberAt u → ⊥) → often j (numbers u) ≡ 0
+  no-links : (s : Side) → link (rows (numberAt u)) s ≡ 0
+
+leaf-told : {rows : ℕ → Row} {n : ℕ} (u : Tree) → Leaf u → Spelled rows n u → Leaf-told rows n u
+unfolding numbers often
+leaf-told (row i e none none) leaf (a-row told u v) =
+    record {
+      in-use = told .in-use;
+      inside = List·Memᴰ·head refl;
+      alone = λ j apart. rw (ne-eqb j i apart);
+      no-links = elim [ left ↦ ap (λ x. x .left) (told .as-told) | right ↦ ap (λ x. x .right) (told .as-told) ];
+    }
+
+-- the row at which the way of a word ends, where the word is there
+end-is :
+    {rows : ℕ → Row} {n : ℕ} (x : ℕ) (u : Tree) → Spelled rows n u → only-if (eqb x) (keyAt u) ≡ such x
+    → (rows (numberAt u) .entry .key ≡ x) × (numberAt u ∈ numbers u)
+unfolding numbers
+end-is x none s found = let never : _≡_ {A = ℕ} 0 1 = cc in absurd (omega arith)
+end-is {rows} x (row i e l r) (a-row told u v) found = by-cases (eqb x (e .key)) refl found
+  where
+    by-cases : (b : Bool) → eqb x (e .key) ≡ b → (if b then such (e .key) else no-such) ≡ such x → (rows i .entry .key ≡ x) × (i ∈ numbers (row i e l r))
+    by-cases true same found = (ap (λ y. y .entry .key) (told .as-told) ∙ sym (eqb-true x (e .key) same), List·Memᴰ·head refl)
+    by-cases false same found = let never : _≡_ {A = ℕ} 0 1 = cc in absurd (omega arith)
+
+hook-names :
+    {rows : ℕ → Row} {n : ℕ} {ss : List Step} {u : Tree} {q : Step} → Hook-told rows n ss u (such q)
+    → (q .at ∈ numbers (chained ss none)) × (q .at < n) × (link (rows (q .at)) (q .turn) ≡ numberAt u)
+hook-names (hook-told there in-use names) = (there, in-use, names)
+
+-- the first row of the tree after an erase is row 0
+popped-first : {ss us : List Step} → Same-places ss us → (u : Tree) → numberAt (chained ss u) ≡ 0 → numberAt (chained us none) ≡ 0
+unfolding chained
+popped-first no-place u root = refl
+popped-first (one-place {s} {ss} {us} f p) u root = by-side (s .turn) root
+  where
+    by-side : (turn : Side) → numberAt (turned (s .at) (s .entry) turn (s .left-part) (s .right-part) (chained ss u)) ≡ 0
+        → numberAt (turned (s .at) f turn (s .left-part) (s .right-part) (chained us none)) ≡ 0
+    by-side left root = root
+    by-side right root = root
+
+listed-there : (t : Tree) → (length (listing t) ≡ 0 → ⊥) → exists t ≡ true
+unfolding listing
+listed-there none some = absurd (some refl)
+listed-there (row i e l r) some = refl
+listed-there damaged some = refl
+
+root-in : (t : Tree) {rows : ℕ → Row} {n : ℕ} → Spelled rows n t → exists t ≡ true → numberAt t ∈ numbers t
+unfolding numbers
+root-in none s there = absurd (false≢true there)
+root-in (row i e l r) s there = List·Memᴰ·head refl
+
+one-more : (n : ℕ) → 0 < n → n ≡ suc (pred n)
+one-more zero some = absurd (omega arith)
+one-more (suc n) some = refl
+
+no-words : (xs : List ℕ) → length xs ≡ 0 → xs ≡ []
+no-words [] e = refl
+no-words (x ∷ xs) e = absurd (omega arith)
+
 module _ (h : Header) (table S : List ℕ) (H : Holding h table S) (k : ℕ) where
   abbrev t : Tree
   t = shown h table
@@ -260,3 +324,70 @@ module _ (h : Header) (table S : List ℕ) (H : Holding h table S) (k : ℕ) whe
     end-leaf =
         let p = end-proper (following k) (h .width) t 0 0 (proper H) in
         leaf-end (w .bits) (w .end) (p .0) (p .1) (p .2) (ends-row k (w .end) present)
+
+    hole-told : Leaf-told (rowAt table) (h .count) (stretch .end)
+    hole-told = leaf-told (stretch .end) end-leaf (end-spelled (rowAt table) (h .count) before (stretch .end) (rw before-whole (shown-spelled H)))
+
+    one-row : h .count ≡ suc last
+    one-row = one-more (h .count) (omega (arith, hole-told .in-use))
+
+    numbers-same : numbers (chained later (stretch .end)) ≡ numbers t
+    numbers-same = same-numbers places (stretch .end) ∙ ap numbers before-whole
+
+    hole-out : hole ∈ numbers new-tree → ⊥
+    hole-out there = omega (arith, once-later hole, chained-often later (stretch .end) hole, in-often there, in-often (hole-told .inside))
+
+    still-there : (j : ℕ) → j ∈ numbers t → (j ≡ hole → ⊥) → j ∈ numbers new-tree
+    still-there j there apart =
+        often-in j (numbers new-tree)
+        (omega (arith, chained-often later (stretch .end) j, ap (often j) numbers-same, in-often there, hole-told .alone j apart))
+
+    abbrev final : Bool → List ℕ
+    final moves = withRow last cleared (if moves then moving hole last second unlinked else unlinked)
+
+    table-after : (moves : Bool) → shrunk last e second moves table ≡ final moves
+    unfolding shrunk erasing joined
+    table-after moves = rw (present, taken)
+
+    hole-same : e .hole ≡ hole
+    unfolding erasing
+    hole-same = rw present
+
+    module _ (small : leb (2 ^ h .width) k ≡ false) (there : lookup k S ≡ true) where
+      fitting : Fitting (h .width) 0 0 k
+      fitting = root-fits (h .width) k .0 (leb-false (2 ^ h .width) k small)
+
+      new-proper : Proper (h .width) 0 0 new-tree
+      new-proper = rw tree-after at (shrunk-proper (h .width) k 0 0 t fitting (proper H))
+
+      new-lists : listing new-tree ≡ delete k S
+      new-lists = ap listing (sym tree-after) ∙ shrunk-listing (h .width) k 0 0 t fitting (proper H) ∙ ap (delete k) (lists H)
+
+      new-number : length (delete k S) ≡ last
+      new-number = omega (arith, delete-length k (H .holds .increasing) there, H .holds .number, one-row)
+
+      new-first : numberAt new-tree ≡ 0
+      new-first = popped-first places (stretch .end) (ap numberAt before-whole ∙ root-first H)
+
+      abbrev Shows : List ℕ → Type 0
+      Shows after = (intact (shown less after) ≡ true) × (listing (shown less after) ≡ delete k S)
+
+      -- the last word goes
+      none-left : last ≡ 0 → (after : List ℕ) → Shows after
+      unfolding shown intact listing
+      none-left empty after = rw (eq-eqb last 0 empty) (refl, sym (no-words (delete k S) (new-number ∙ empty)))
+
+      module _ (some : last ≡ 0 → ⊥) where
+        new-there : exists new-tree ≡ true
+        new-there = listed-there new-tree (λ e. some (sym new-number ∙ ap length (sym new-lists) ∙ e))
+
+        -- the hole is the last row: nothing moves
+        stays : hole ≡ last → Shows (final false)
+        stays same =
+            let so : shown less (final false) ≡ new-tree =
+            shown-so less (final false) new-tree some new-proper
+            (spelled-frame new-tree unlinked-spelled (λ j inside below.
+            let apart : j ≡ last → ⊥ = λ e. hole-out (Memᴰ·cast (same ∙ sym e) inside) in
+            (omega (arith, one-row), row-elsewhere last unlinked j apart cleared)))
+            new-there new-first in
+            (ap intact so ∙ proper-intact (h .width) 0 0 new-tree new-proper, ap listing so ∙ new-lists)
