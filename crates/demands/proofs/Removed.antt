@@ -391,3 +391,106 @@ module _ (h : Header) (table S : List ℕ) (H : Holding h table S) (k : ℕ) whe
             (omega (arith, one-row), row-elsewhere last unlinked j apart cleared)))
             new-there new-first in
             (ap intact so ∙ proper-intact (h .width) 0 0 new-tree new-proper, ap listing so ∙ new-lists)
+
+    -- the second way: the way of the last row's key ends at the last row
+    abbrev last-key : ℕ
+    last-key = rowAt table last .entry .key
+
+    last-in : last ∈ numbers t
+    last-in =
+        often-in last (numbers t)
+        (omega (arith, rw (lt-ltb last (h .count) (omega (arith, one-row))) at (H .holds .each-row-once last)))
+
+    keys-listed : listing t ≡ map (keyOf-row (rowAt table) (h .count)) (numbers t)
+    keys-listed = spelled-keys (rowAt table) (h .count) t (shown-spelled H)
+
+    key-in : last-key ∈ listing t
+    key-in = rw keys-listed (in-map (keyOf-row (rowAt table) (h .count)) last-in)
+
+    second-finds : only-if (eqb last-key) (keyAt (second .end)) ≡ such last-key
+    unfolding secondWay has
+    second-finds =
+        has-answer (h .width) last-key 0 0 t (on-root-path (h .width) last-key .0 (H .holds .below last-key (rw (lists H) at key-in))) (proper H)
+        ∙ ap (λ b. if b then such last-key else no-such) (lookup-whether last-key (listing t) .1 key-in)
+
+    second-whole : chained (second .passed) (second .end) ≡ t
+    unfolding secondWay
+    second-whole = linked-again (following last-key) (h .width) t
+
+    second-spelled : Spelled (rowAt table) (h .count) (chained (second .passed) (second .end))
+    second-spelled = rw second-whole (shown-spelled H)
+
+    second-told : (rowAt table (numberAt (second .end)) .entry .key ≡ last-key) × (numberAt (second .end) ∈ numbers (second .end))
+    second-told =
+        end-is last-key (second .end) (end-spelled (rowAt table) (h .count) (second .passed) (second .end) second-spelled) second-finds
+
+    second-often : (j : ℕ) → often j (numbers t) ≡ often j (numbers (chained (second .passed) none)) + often j (numbers (second .end))
+    second-often j = ap (λ u. often j (numbers u)) (sym second-whole) ∙ chained-often (second .passed) (second .end) j
+
+    second-last : numberAt (second .end) ≡ last
+    second-last =
+        let rising : Increasing (listing t) = rw (lists H) (H .holds .increasing) in
+        one-key (keyOf-row (rowAt table) (h .count)) (numbers t) (rw keys-listed at rising)
+        (often-in (numberAt (second .end)) (numbers t) (omega (arith, second-often (numberAt (second .end)), in-often (second-told .1))))
+        last-in (second-told .0)
+
+    not-astray : astray h table second ≡ false
+    unfolding astray
+    not-astray = rw (second-finds, eq-eqb (numberAt (second .end)) last second-last)
+
+    second-unbroken : broken second ≡ false
+    unfolding secondWay
+    second-unbroken = unbroken (following last-key) (h .width) t (undamaged H)
+
+    module _ (earlier : hole < last) where
+      some-left : last ≡ 0 → ⊥
+      some-left e = omega arith
+
+      -- the row above the last one, and the side where it names it
+      module _ (p : Step) (is : last-such anything (second .passed) ≡ such p) where
+        abbrev parent : ℕ
+        parent = p .at
+
+        told : (parent ∈ numbers (chained (second .passed) none)) × (parent < h .count) × (link (rowAt table parent) (p .turn) ≡ numberAt (second .end))
+        told = hook-names (rw is at (hook-is (rowAt table) (h .count) (second .passed) (second .end) second-spelled))
+
+        names-last : link (rowAt table parent) (p .turn) ≡ last
+        names-last = told .2 ∙ second-last
+
+        parent-in : parent ∈ numbers t
+        parent-in = often-in parent (numbers t) (omega (arith, second-often parent, in-often (told .0)))
+
+        parent-other : parent ≡ last → ⊥
+        parent-other e =
+            let inside : parent ∈ numbers (second .end) = Memᴰ·cast (e ∙ sym second-last) (second-told .1) in
+            omega (arith, second-often parent, rows-once H parent, in-often (told .0), in-often inside)
+
+        parent-kept : parent ≡ hole → ⊥
+        parent-kept e = some-left (sym names-last ∙ ap (λ j. link (rowAt table j) (p .turn)) e ∙ hole-told .no-links (p .turn))
+
+        -- unlinking the hole leaves that link
+        other-hook : (q : Step) → last-such anything before ≡ such q → (3 * q .at + 2 < length raised-table) × (q .at ≡ parent → q .turn ≡ p .turn → ⊥)
+        other-hook q is-q =
+            let whole : Spelled (rowAt table) (h .count) (chained before (stretch .end)) = rw before-whole (shown-spelled H) in
+            let names = hook-names (rw is-q at (hook-is (rowAt table) (h .count) before (stretch .end) whole)) in (
+              omega (arith, fit, raised-long, names .1),
+              λ same-row same-side.
+              let at-hole : link (rowAt table parent) (p .turn) ≡ hole =
+              ap (λ j. link (rowAt table j) (p .turn)) (sym same-row) ∙ ap (link (rowAt table (q .at))) (sym same-side) ∙ names .2 in
+              omega (arith, names-last),
+            )
+
+        still-names : link (rowAt unlinked parent) (p .turn) ≡ last
+        still-names =
+            hooking-link (last-such anything before) 0 raised-table parent (p .turn) other-hook
+            ∙ taking-link (taken-by later) table parent (p .turn) ∙ names-last
+
+        abbrev filled : List ℕ
+        filled = withRow hole (rowAt unlinked last) unlinked
+
+        abbrev relinked : List ℕ
+        relinked = withLink parent (p .turn) hole filled
+
+        final-is : final true ≡ withRow last cleared relinked
+        unfolding moving
+        final-is = rw is
