@@ -230,6 +230,21 @@ unfolding numbers
 root-in none s there = absurd (false≢true there)
 root-in (row i e l r) s there = List·Memᴰ·head refl
 
+-- other row numbers, the same words
+renamed-intact : (σ : ℕ → ℕ) (t : Tree) → intact (renamed σ t) ≡ intact t
+renamed-intact σ t = sym (intact-unnumbered (renamed σ t)) ∙ ap intact (unnumbered-renamed σ t) ∙ intact-unnumbered t
+
+renamed-listing : (σ : ℕ → ℕ) (t : Tree) → listing (renamed σ t) ≡ listing t
+renamed-listing σ t = sym (listing-unnumbered (renamed σ t)) ∙ ap listing (unnumbered-renamed σ t) ∙ listing-unnumbered t
+
+root-stays : (hole last : ℕ) → (last ≡ 0 → ⊥) → moved-into hole last 0 ≡ 0
+unfolding moved-into
+root-stays hole last some = rw (ne-eqb 0 last (λ e. some (sym e)))
+
+shown-root : (h : Header) (table : List ℕ) → (h .count ≡ 0 → ⊥) → shown h table ≡ unfolded (rowAt table) (h .count) (h .width) 0 0 0
+unfolding shown
+shown-root h table some = rw (ne-eqb (h .count) 0 some)
+
 one-more : (n : ℕ) → 0 < n → n ≡ suc (pred n)
 one-more zero some = absurd (omega arith)
 one-more (suc n) some = refl
@@ -494,3 +509,51 @@ module _ (h : Header) (table S : List ℕ) (H : Holding h table S) (k : ℕ) whe
         final-is : final true ≡ withRow last cleared relinked
         unfolding moving
         final-is = rw is
+
+        long : length filled ≡ length table
+        long = row-length hole (rowAt unlinked last) unlinked ∙ unlinked-long
+
+        -- what the move leaves
+        hole-later : (numberAt new-tree ≡ 0) × (exists new-tree ≡ true) → hole ≡ 0 → ⊥
+        hole-later first e = hole-out (Memᴰ·cast (e ∙ sym (first .0)) (root-in new-tree unlinked-spelled (first .1)))
+
+        moved-rows : (numberAt new-tree ≡ 0) × (exists new-tree ≡ true) → LastMoved (rowAt unlinked) (rowAt (withRow last cleared relinked)) hole last parent (p .turn) new-tree
+        moved-rows first =
+            record {
+              hole-earlier = earlier;
+              hole-no-root = hole-later first;
+              parent-there = still-there parent parent-in parent-kept;
+              parent-other = parent-other;
+              parent-names = still-names;
+              moved =
+                  row-elsewhere last relinked hole (λ e. omega arith) cleared
+                  ∙ link-elsewhere parent filled hole (λ e. parent-kept (sym e)) (p .turn) hole
+                  ∙ row-written hole unlinked (omega (arith, fit, unlinked-long, hole-told .in-use)) (rowAt unlinked last);
+              link-set =
+                  row-elsewhere last relinked parent parent-other cleared
+                  ∙ link-written parent filled (omega (arith, fit, long, told .1)) (p .turn) hole
+                  ∙ ap (linking (p .turn) hole) (row-elsewhere hole unlinked parent parent-kept (rowAt unlinked last));
+              others-stay =
+                  λ j inside no-last no-parent.
+                  row-elsewhere last relinked j no-last cleared ∙ link-elsewhere parent filled j no-parent (p .turn) hole
+                  ∙ row-elsewhere hole unlinked j (λ e. hole-out (Memᴰ·cast (sym e) inside)) (rowAt unlinked last);
+            }
+
+        moved-shows : (small : leb (2 ^ h .width) k ≡ false) (there : lookup k S ≡ true) → Shows small there (final true)
+        moved-shows small there =
+            let first : (numberAt new-tree ≡ 0) × (exists new-tree ≡ true) = (new-first small there, new-there small there some-left) in
+            let after : List ℕ = withRow last cleared relinked in
+            let before-move : unfolded (rowAt unlinked) (suc last) (h .width) 0 0 0 ≡ new-tree =
+            ap₂ (λ n i. unfolded (rowAt unlinked) n (h .width) 0 0 i) (sym one-row) (sym (first .0))
+            ∙ spelled-shows (rowAt unlinked) (h .count) (h .width) 0 0 new-tree (new-proper small there) unlinked-spelled (first .1) in
+            let whole : intact (unfolded (rowAt unlinked) (suc last) (h .width) 0 0 0) ≡ true =
+            ap intact before-move ∙ proper-intact (h .width) 0 0 new-tree (new-proper small there) in
+            let moves : unfolded (rowAt after) last (h .width) 0 0 (moved-into hole last 0) ≡ renamed (moved-into hole last) (unfolded (rowAt unlinked) (suc last) (h .width) 0 0 0) =
+            last-row-moved (rowAt unlinked) (rowAt after) hole last parent (p .turn) (h .width) 0 0 0 whole (rw before-move (moved-rows first)) in
+            let so : shown less after ≡ renamed (moved-into hole last) new-tree =
+            shown-root less after some-left ∙ ap (unfolded (rowAt after) last (h .width) 0 0) (sym (root-stays hole last some-left))
+            ∙ moves ∙ ap (renamed (moved-into hole last)) before-move in
+            rw final-is (
+              ap intact so ∙ renamed-intact (moved-into hole last) new-tree ∙ proper-intact (h .width) 0 0 new-tree (new-proper small there),
+              ap listing so ∙ renamed-listing (moved-into hole last) new-tree ∙ new-lists small there,
+            )
