@@ -125,7 +125,7 @@ module _ (rows : ℕ → Row) (n : ℕ) where
   spelled-keys : (t : Tree) → Spelled rows n t → listing t ≡ map keyOf-row (numbers t)
   unfolding listing numbers
   spelled-keys none s = refl
-  spelled-keys (row i e l r) (a-row s u v) = 
+  spelled-keys (row i e l r) (a-row s u v) =
       rw (map-append, spelled-keys l u, spelled-keys r v)
       (ap (λ k. k ∷ (map keyOf-row (numbers l) ++ map keyOf-row (numbers r))) (sym (ap (λ x. x .entry .key) (s .as-told))))
 
@@ -490,9 +490,9 @@ module _ (h : Header) (table S : List ℕ) (H : Holding h table S) (k : ℕ) whe
             let names = hook-names (rw is-q at (hook-is (rowAt table) (h .count) before (stretch .end) whole)) in (
               omega (arith, fit, raised-long, names .1),
               λ same-row same-side.
-              let at-hole : link (rowAt table parent) (p .turn) ≡ hole =
-              ap (λ j. link (rowAt table j) (p .turn)) (sym same-row) ∙ ap (link (rowAt table (q .at))) (sym same-side) ∙ names .2 in
-              omega (arith, names-last),
+                  let at-hole : link (rowAt table parent) (p .turn) ≡ hole =
+                  ap (λ j. link (rowAt table j) (p .turn)) (sym same-row) ∙ ap (link (rowAt table (q .at))) (sym same-side) ∙ names .2 in
+                  omega (arith, names-last),
             )
 
         still-names : link (rowAt unlinked parent) (p .turn) ≡ last
@@ -557,3 +557,122 @@ module _ (h : Header) (table S : List ℕ) (H : Holding h table S) (k : ℕ) whe
               ap intact so ∙ renamed-intact (moved-into hole last) new-tree ∙ proper-intact (h .width) 0 0 new-tree (new-proper small there),
               ap listing so ∙ renamed-listing (moved-into hole last) new-tree ∙ new-lists small there,
             )
+
+      -- there is such a row, for the last row is not the root
+      has-parent : (q : Perhaps Step) → last-such anything (second .passed) ≡ q → (p : Step) × (last-such anything (second .passed) ≡ such p)
+      unfolding chained
+      has-parent no-such is =
+          absurd (some-left (sym second-last ∙ alone (rw is at (hook-is (rowAt table) (h .count) (second .passed) (second .end) second-spelled))))
+        where
+          alone : Hook-told (rowAt table) (h .count) (second .passed) (second .end) no-such → numberAt (second .end) ≡ 0
+          alone (no-hook empty) = sym (ap (λ ss. numberAt (chained ss (second .end))) empty) ∙ ap numberAt second-whole ∙ root-first H
+      has-parent (such p) is = (p, is)
+
+    shows-after : (small : leb (2 ^ h .width) k ≡ false) (there : lookup k S ≡ true) → Shows small there (final (not (eqb hole last)))
+    shows-after small there = by-cases (eqb last 0) refl (eqb hole last) refl
+      where
+        by-cases : (a : Bool) → eqb last 0 ≡ a → (b : Bool) → eqb hole last ≡ b → Shows small there (final (not b))
+        by-cases true empty b same = none-left small there (eqb-true last 0 empty) (final (not b))
+        by-cases false some true same = stays small there (eqb-false last 0 some) (eqb-true hole last same)
+        by-cases false some false differ =
+            let earlier : hole < last = omega (arith, one-row, hole-told .in-use, eqb-false hole last differ) in
+            let p = has-parent earlier (last-such anything (second .passed)) refl in
+            moved-shows earlier (p .0) (p .1) small there
+
+    same-long : (moves : Bool) → length (final moves) ≡ length table
+    unfolding moving
+    same-long moves = row-length last cleared (if moves then moving hole last second unlinked else unlinked) ∙ by-cases moves
+      where
+        by-cases : (b : Bool) → length (if b then moving hole last second unlinked else unlinked) ≡ length table
+        by-cases true =
+            hooking-length (above-end second) hole (withRow hole (rowAt unlinked last) unlinked)
+            ∙ row-length hole (rowAt unlinked last) unlinked ∙ unlinked-long
+        by-cases false = unlinked-long
+
+    del-held : (small : leb (2 ^ h .width) k ≡ false) (there : lookup k S ≡ true) → Holding less (final (not (eqb hole last))) (delete k S)
+    unfolding wrong-header
+    del-held small there =
+        let moves : Bool = not (eqb hole last) in
+        record {
+          right-header =
+              rw (
+                right-width H,
+                same-capacity (final moves) table (same-long moves),
+                le-ltb (capacity table) last (omega (arith, has-room H, one-row)),
+              );
+          holds = held-by-listing less (final moves) (shows-after small there .0) (shows-after small there .1) (new-number small there);
+        }
+
+  present-is : e .present ≡ ends-at k w
+  unfolding erasing
+  present-is = by-cases (ends-at k w)
+    where
+      by-cases : (b : Bool) → erasing-by w stretch (joined w stretch) b .present ≡ b
+      by-cases true = refl
+      by-cases false = refl
+
+  present-so : leb (2 ^ h .width) k ≡ false → e .present ≡ lookup k S
+  present-so small = erasing-present (h .width) k 0 0 t (narrow h k small) (proper H) ∙ ap (lookup k) (lists H)
+
+  abbrev moves : Bool
+  moves = not (eqb (e .hole) last)
+
+  abbrev outcome : Bool → Bool → Bool → Outcome
+  outcome wide there bad =
+      if wide then record { reply = refused h WordTooWide; table = table }
+      else if not there then record { reply = answered h NoSuchWord (rows (e .rows-read)); table = table }
+      else if bad then record { reply = refused h Damage; table = table }
+      else
+      record {
+        reply = record { header = less; answer = Done; rows = rows (e .rows-read); moved = if moves then rows second else 0 };
+        table = shrunk last e second moves table;
+      }
+
+  abbrev bad : Bool
+  bad = moves && (broken second || astray h table second)
+
+  outcome-so : delOutcome h table k ≡ outcome (leb (2 ^ h .width) k) (e .present) bad
+  unfolding delOutcome too-wide
+  outcome-so = rw (H .right-header, erasing-unbroken (h .width) t (undamaged H) k)
+
+  never-bad : ends-at k w ≡ true → bad ≡ false
+  never-bad present = rw (second-unbroken present, not-astray present) (by-cases moves)
+    where
+      by-cases : (b : Bool) → (b && false) ≡ false
+      by-cases true = refl
+      by-cases false = refl
+
+  after-so : (present : ends-at k w ≡ true) → shrunk last e second moves table ≡ final present (not (eqb hole last))
+  after-so present = table-after present moves ∙ ap (λ i. final present (not (eqb i last))) (hole-same present)
+
+  pub keeps-del : (buffer : List ℕ) → KeepsDictionary (del k) h table buffer S
+  unfolding after expected kept-after changed numberOf keyOf
+  keeps-del buffer = rw outcome-so (by-width (leb (2 ^ h .width) k) refl (e .present) (λ small. present-so small) bad (λ small there. never-bad (sym present-is ∙ present-so small ∙ there)))
+    where
+      said : Bool → Bool → Said
+      said wide there = if wide then only 3 else if there then only 0 else only 8
+
+      kept : Said → Kept
+      kept answer = if eqb (answer .number) 0 then record { width = h .width; set = delete k S; buffer = buffer } else keptBy h S buffer
+
+      left-by : Outcome → After
+      left-by o = record { reply = o .reply; table = o .table; buffer = buffer }
+
+      by-lookup : (small : leb (2 ^ h .width) k ≡ false) (there : Bool) → lookup k S ≡ there → (wrong : Bool) → (there ≡ true → wrong ≡ false)
+          → Keeps (said false there) (kept (said false there)) table (left-by (outcome false there wrong))
+      by-lookup small true is wrong so =
+          let present : ends-at k w ≡ true = sym present-is ∙ present-so small ∙ is in
+          rw (so refl) (record {
+            answer = refl;
+            width = refl;
+            held = rw (after-so present) (del-held present small is);
+            written = refl;
+            same-length = ap length (after-so present) ∙ same-long present (not (eqb hole last));
+          })
+      by-lookup small false is wrong so = nothing-changed h table buffer S H (answered h NoSuchWord (rows (e .rows-read))) (only 8) refl refl
+
+      by-width : (wide : Bool) → leb (2 ^ h .width) k ≡ wide → (there : Bool) → (leb (2 ^ h .width) k ≡ false → there ≡ lookup k S)
+          → (wrong : Bool) → (leb (2 ^ h .width) k ≡ false → lookup k S ≡ true → wrong ≡ false)
+          → Keeps (said wide (lookup k S)) (kept (said wide (lookup k S))) table (left-by (outcome wide there wrong))
+      by-width true small there so wrong never = nothing-changed h table buffer S H (refused h WordTooWide) (only 3) refl refl
+      by-width false small there so wrong never = rw (so small) (by-lookup small (lookup k S) refl wrong (never small))
