@@ -11,3 +11,9 @@ pub mod Written
 pub mod SecondWay
 pub mod RowsRead
 pub mod Reached
+pub mod Answered
+pub mod Spelled
+pub mod Writes
+pub mod Rewritten
+pub mod Added
+pub mod Removed

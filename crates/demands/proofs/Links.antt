@@ -32,7 +32,7 @@ sum-append : (f : ℕ → ℕ) (xs ys : List ℕ) → sum f (xs ++ ys) ≡ sum f
 sum-append f [] ys = omega arith
 sum-append f (x ∷ xs) ys = omega (arith, sum-append f xs ys)
 
-often-append : (i : ℕ) (xs ys : List ℕ) → often i (xs ++ ys) ≡ often i xs + often i ys
+pub often-append : (i : ℕ) (xs ys : List ℕ) → often i (xs ++ ys) ≡ often i xs + often i ys
 unfolding often
 often-append i [] ys = omega arith
 often-append i (x ∷ xs) ys = omega (arith, often-append i xs ys)

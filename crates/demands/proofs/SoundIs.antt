@@ -58,7 +58,7 @@ module _ {h : Header} {table S : List ℕ} (s : HoldsSet h table S) where
   listing-of-set = tree-listing h table S (s .increasing) (s .below) (s .tree)
 
   -- a table that holds a set passes the test
-  test-of-set : isSound h table ≡ true
+  pub test-of-set : isSound h table ≡ true
   test-of-set =
       test-passes h table (tree-intact h table S (s .increasing) (s .below) (s .tree))
       (sym (listing-length (shown h table)) ∙ ap length listing-of-set ∙ s .number)

@@ -26,7 +26,7 @@ use Rattle.demands.proofs.Meeting.{met-in, keys-met, times-met, proper-
 
 module _ (h : Header) (table : List ℕ) where
   -- what holds of the empty tree and of the unfolding of row 0 holds of the tree that is shown
-  shown-as : (P : Tree → Type 0) → P none → P (unfolded (rowAt table) (h .count) (h .width) 0 0 0) → P (shown h table)
+  pub shown-as : (P : Tree → Type 0) → P none → P (unfolded (rowAt table) (h .count) (h .width) 0 0 0) → P (shown h table)
   unfolding shown
   shown-as P empty root = by-cases (eqb (h .count) 0)
     where

@@ -53,7 +53,7 @@ unfolding intact
 by-link P f there zero h = refl
 by-link P f there (suc k) h = there k h
 
-linked-row : (f : ℕ → Tree) (j : ℕ) → (j ≡ 0 → ⊥) → linked f j ≡ f j
+pub linked-row : (f : ℕ → Tree) (j : ℕ) → (j ≡ 0 → ⊥) → linked f j ≡ f j
 linked-row f zero h = absurd (h refl)
 linked-row f (suc j) h = refl
 

@@ -11,3 +11,5 @@ pub mod Refusals
 pub mod SoundIs
 pub mod RowsRead
 pub mod Reached
+pub mod Expected
+pub mod Demand2

@@ -1,4 +1,5 @@
 -- From the walks of `del` to what it answers and leaves: the stretch below k's row, the way of the last row, and the outcome.
+-- Document 01: "the way of k, then from k's row down by left link, else right link"; "For this a second way, the way of the last row's key".
 use Prim.Native.Nat.{ℕ, pred, _-_, _%_, _≤_, _<_}
 use mathlib.Core.Path.{_≡_, refl, sym, _∙_, subst}
 use mathlib.Core.Bool.{Bool, true, false, not, _&&_, _||_, true≢false}
@@ -59,6 +60,7 @@ module _ (rows : ℕ → Row) (n room bits above path : ℕ) (fits : n ≤ room)
   hang-told true p e h = (λ linked. lt-of-lt-of-le (rw e at h) fits, omega arith)
   hang-told false p e h = (λ linked. absurd (true≢false (sym linked)), omega arith)
 
+-- the way of k, as the walk that went it tells
 module _ (h : Header) (table : List ℕ) (fine : wrong-header h table ≡ false) (k : ℕ) (w : Walk)
     (gone : Walked (rowAt table) (seeking k k) (h .width) (h .count) (shown h table) w) where
   abbrev rows : ℕ → Row
@@ -99,7 +101,7 @@ module _ (h : Header) (table : List ℕ) (fine : wrong-header h table ≡ false)
   hangs-whole =
       hang-told rows (w .count) (capacity table) (w .bits) (w .above) (w .path) room (ltb (w .bits) (h .width)) (above-end whole) above-is (last-such-one anything whole-used)
 
-  -- "the way of k, then from k's row down": the walk that ended at k's row goes on from there
+  -- the walk that ended at k's row goes on from there
   module _ (at-k : endsAt k (w .key) (w .stage) ≡ true) where
     at-row : (stage : Stage) → endsAt k (w .key) stage ≡ true → stage ≡ AtRow
     at-row On e = cc
@@ -161,6 +163,7 @@ module _ (h : Header) (table : List ℕ) (fine : wrong-header h table ≡ false)
       unfolding broken joined
       broken-below = rw (is-erasing, below-is) damaged-below
 
+      -- the rows of both, and the last of them that is passed
       rows-below : Ways.rows (joined whole below-way) ≡ rowsRead s (h .width)
       unfolding joined Ways.rows
       rows-below =
@@ -208,6 +211,7 @@ module _ (h : Header) (table : List ℕ) (fine : wrong-header h table ≡ false)
         the-hole =
             record { from = w .row; steps = w .bits - s .bits; row = s .row; hook = hookOf s (h .width); rows = rowsRead s (h .width) }
 
+        -- so all that was judged of the stretch is so, and is in the table
         pub hollow : Hollow e table the-hole
         hollow =
             record {

@@ -1,4 +1,5 @@
 -- What the small functions of `src/erase.rt` do, and what `del` has judged before it writes.
+-- Document 01: "All of it is judged before anything is written."
 use Prim.Native.Nat.{ℕ, zero, suc, pred, _%_, _<_}
 use mathlib.Core.Path.{_≡_}
 use mathlib.Core.Bool.{true, false, not, _&&_, _||_}

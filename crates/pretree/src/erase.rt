@@ -66,6 +66,7 @@ impl Header {
         self.erased(table, word)
     }
 
+    // The way of k, and the refusals and the answer 8 where it doesn't end at k.
     fn erased(self, table: &mut [u32], word: u32) -> Reply
         requires header { ⌜ wrong-header self (now table) ≡ false ⌝ }
         requires width { ⌜ too-wide self word ≡ false ⌝ }
@@ -82,7 +83,7 @@ impl Header {
         self.answered(Answer::NoSuchWord, w.rows(self.width))
     }
 
-    // The way of the word ended at it: the stretch below.
+    // The way ended at k: the stretch below, judged.
     fn hollowed(self, table: &mut [u32], word: u32, w: Walk) -> Reply
         requires header { ⌜ wrong-header self (now table) ≡ false ⌝ }
         requires width { ⌜ too-wide self word ≡ false ⌝ }
@@ -188,6 +189,7 @@ fn shrink(table: &mut [u32], last: u32, hole: Hole, m: Move)
     put_row(table, last, zeros);
 }
 
+// "that last row is moved into it", and linked there.
 fn fill(table: &mut [u32], hole: u32, last: u32, m: Move)
     requires rows { ⌜ (hole < capacity (now table)) × (last < capacity (now table)) ⌝ }
     requires hook { ⌜ Hangs (capacity (now table)) (m .hook) ⌝ }
@@ -224,6 +226,7 @@ fn beneath(row: Row) -> u32
     if row.left != 0 { row.left } else { row.right }
 }
 
+// Where the end of a walk from a root with so many bits left is linked.
 fn hook_of(w: Walk, width: u32) -> Hook
     ensures { λ r. ⌜ r ≡ hookOf w width ⌝ }
 {

@@ -9,16 +9,13 @@ use Rattle.pretree.proofs.Header.del.Statement.{statement}
 use Rattle.pretree.proofs.Header.del.Tie as tie
 
 is-wrong-requires : tie.Need-is-wrong-requires
-is-wrong-requires c κs =
-    search needs
+is-wrong-requires c κs = search needs
 
 refused-requires : tie.Need-refused-requires
-refused-requires c κs =
-    search needs
+refused-requires c κs = search needs
 
 same-length : tie.Need-same-length
-same-length c =
-    search needs
+same-length c = search needs
 
 returns : tie.Need-returns
 unfolding delOutcome
@@ -33,12 +30,10 @@ is-exceeded-by-requires c κs =
     right-header (a .self) (a .table .now) (cc) .at-most-32
 
 refused-requires-2 : tie.Need-refused-requires-2
-refused-requires-2 c κs =
-    search needs
+refused-requires-2 c κs = search needs
 
 same-length-2 : tie.Need-same-length-2
-same-length-2 c =
-    search needs
+same-length-2 c = search needs
 
 returns-2 : tie.Need-returns-2
 unfolding delOutcome
@@ -49,16 +44,13 @@ returns-2 c =
     rw (fine, wide) (c .refused2 .ensures, refl)
 
 erased-requires : tie.Need-erased-requires
-erased-requires c κs =
-    (cc, cc)
+erased-requires c κs = (cc, cc)
 
 same-length-3 : tie.Need-same-length-3
-same-length-3 c =
-    search needs
+same-length-3 c = search needs
 
 returns-3 : tie.Need-returns-3
-returns-3 c =
-    c .before .before .erased .ensures
+returns-3 c = c .before .before .erased .ensures
 
 pub del-spec : {M : Type 1} → statement M
 del-spec =

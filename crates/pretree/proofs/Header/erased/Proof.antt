@@ -7,12 +7,10 @@ use Rattle.pretree.proofs.Header.erased.Statement.{statement}
 use Rattle.pretree.proofs.Header.erased.Tie as tie
 
 way-of-requires : tie.Need-way-of-requires
-way-of-requires c κs =
-    search needs
+way-of-requires c κs = search needs
 
 ends-at-requires : tie.Need-ends-at-requires
-ends-at-requires c κs =
-    search needs
+ends-at-requires c κs = search needs
 
 hollowed-requires : tie.Need-hollowed-requires
 hollowed-requires c κs =
@@ -20,24 +18,19 @@ hollowed-requires c κs =
     (start .pre .0, (start .pre .1, (c .before .before .before .way-of .ensures, cc)))
 
 same-length : tie.Need-same-length
-same-length c =
-    search needs
+same-length c = search needs
 
 returns : tie.Need-returns
-returns c =
-    c .before .before .hollowed .ensures
+returns c = c .before .before .hollowed .ensures
 
 is-damaged-requires : tie.Need-is-damaged-requires
-is-damaged-requires c κs =
-    search needs
+is-damaged-requires c κs = search needs
 
 refused-requires : tie.Need-refused-requires
-refused-requires c κs =
-    search needs
+refused-requires c κs = search needs
 
 same-length-2 : tie.Need-same-length-2
-same-length-2 c =
-    search needs
+same-length-2 c = search needs
 
 returns-2 : tie.Need-returns-2
 returns-2 c =
@@ -54,12 +47,10 @@ rows-requires c κs =
     (c .before .before .before .before .way-of .ensures .walking .fits, right-header (start .args .self) (start .args .table .now) (start .pre .0) .at-most-32)
 
 answered-requires : tie.Need-answered-requires
-answered-requires c κs =
-    search needs
+answered-requires c κs = search needs
 
 same-length-3 : tie.Need-same-length-3
-same-length-3 c =
-    search needs
+same-length-3 c = search needs
 
 returns-3 : tie.Need-returns-3
 returns-3 c =

@@ -9,16 +9,13 @@ use Rattle.pretree.proofs.Header.filled.Statement.{statement}
 use Rattle.pretree.proofs.Header.filled.Tie as tie
 
 move-of-requires : tie.Need-move-of-requires
-move-of-requires c κs =
-    search needs
+move-of-requires c κs = search needs
 
 refused-requires : tie.Need-refused-requires
-refused-requires c κs =
-    search needs
+refused-requires c κs = search needs
 
 same-length : tie.Need-same-length
-same-length c =
-    search needs
+same-length c = search needs
 
 returns : tie.Need-returns
 returns c =
@@ -29,8 +26,7 @@ returns c =
     rw outcome (c .refused .ensures, refl)
 
 sub-last : tie.Need-sub-last
-sub-last c =
-    search needs
+sub-last c = search needs
 
 shrink-requires : tie.Need-shrink-requires
 shrink-requires c κs =
@@ -39,8 +35,7 @@ shrink-requires c κs =
     (omega (arith, room, start .pre .1 .1 .0), (start .pre .1 .1 .1 .1, c .before .before .before .move-of .ensures .1))
 
 same-length-2 : tie.Need-same-length-2
-same-length-2 c =
-    search needs
+same-length-2 c = search needs
 
 returns-2 : tie.Need-returns-2
 returns-2 c =

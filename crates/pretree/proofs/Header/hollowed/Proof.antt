@@ -10,8 +10,7 @@ use Rattle.pretree.proofs.Header.hollowed.Statement.{statement}
 use Rattle.pretree.proofs.Header.hollowed.Tie as tie
 
 restarted-requires : tie.Need-restarted-requires
-restarted-requires c κs =
-    search needs
+restarted-requires c κs = search needs
 
 fallen-requires : tie.Need-fallen-requires
 fallen-requires c κs =
@@ -20,16 +19,13 @@ fallen-requires c κs =
     rw (c .restarted .ensures) (begun (a .self) (a .table .now) (start .pre .0) (a .word) (a .w) (start .pre .1 .1 .0) (start .pre .1 .1 .1))
 
 is-damaged-requires : tie.Need-is-damaged-requires
-is-damaged-requires c κs =
-    search needs
+is-damaged-requires c κs = search needs
 
 refused-requires : tie.Need-refused-requires
-refused-requires c κs =
-    search needs
+refused-requires c κs = search needs
 
 same-length : tie.Need-same-length
-same-length c =
-    search needs
+same-length c = search needs
 
 returns : tie.Need-returns
 returns c =
@@ -43,15 +39,11 @@ returns c =
 
 sub-t12 : tie.Need-sub-t12
 sub-t12 c =
-    let start = c .before .before .before .before .before .before .before .before in
-    let a = start .args in
-    let s = c .before .before .before .before .fallen in
-    let fell = rw (c .before .before .before .before .before .restarted .ensures) at (s .ensures) in
+    let fell = rw (c .before .before .before .before .before .restarted .ensures) at (c .before .before .before .before .fallen .ensures) in
     fell .walked .walking .fits
 
 hook-of-requires : tie.Need-hook-of-requires
-hook-of-requires c κs =
-    search needs
+hook-of-requires c κs = search needs
 
 rows-requires : tie.Need-rows-requires
 rows-requires c κs =
@@ -85,12 +77,10 @@ filled-requires c κs =
     )
 
 same-length-2 : tie.Need-same-length-2
-same-length-2 c =
-    search needs
+same-length-2 c = search needs
 
 returns-2 : tie.Need-returns-2
-returns-2 c =
-    c .before .before .filled .ensures
+returns-2 c = c .before .before .filled .ensures
 
 pub hollowed-spec : {M : Type 1} → statement M
 hollowed-spec =

@@ -27,7 +27,7 @@ returns : tie.Need-returns
 unfolding filled
 returns c =
     let needed : c .before .before .before .before .before .before .before .before .before .before .before .before .args .m .needed ≡ true = search needs in
-    rw needed (cc)
+    rw (needed, c .before .before .hook .ensures, c .before .before .before .before .before .before .put-row .ensures, c .before .before .before .before .before .before .before .before .row-at .ensures)
 
 returns-2 : tie.Need-returns-2
 unfolding filled

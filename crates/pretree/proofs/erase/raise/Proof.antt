@@ -56,8 +56,7 @@ loop-again c =
     (raises-more _ _ _ _ _ _ (p .loop-test .taken) (l .inv))
 
 same-length : tie.Need-same-length Inv-loop μ-loop
-same-length c =
-    c .before .loop .inv .long
+same-length c = c .before .loop .inv .long
 
 returns : tie.Need-returns Inv-loop μ-loop
 unfolding raising taking

@@ -7,8 +7,7 @@ use Rattle.pretree.proofs.erase.shrink.Statement.{statement}
 use Rattle.pretree.proofs.erase.shrink.Tie as tie
 
 raise-requires : tie.Need-raise-requires
-raise-requires c κs =
-    c .before .before .pre .1 .0 .rises
+raise-requires c κs = c .before .before .pre .1 .0 .rises
 
 hook-requires : tie.Need-hook-requires
 hook-requires c κs =
@@ -32,13 +31,12 @@ put-row-requires c κs =
     rw room (start .pre .0)
 
 same-length : tie.Need-same-length
-same-length c =
-    search needs
+same-length c = search needs
 
 returns : tie.Need-returns
 unfolding emptied
 returns c =
-    cc
+    rw (c .before .before .put-row .ensures, c .before .before .before .before .before .before .fill .ensures, c .before .before .before .before .before .before .before .before .before .before .hook .ensures, c .before .before .before .before .before .before .before .before .before .before .before .before .before .before .raise .ensures)
 
 pub shrink-spec : {M : Type 1} → statement M
 shrink-spec =

@@ -1,0 +1,313 @@
+-- Demand 2 of `add`: its writes do to the table what the push does to the tree, so the table shows the tree of the set with the word in it.
+use Prim.Native.Nat.{ℕ, zero, suc, _+_, _*_, _/_, _^_, _<_, _≤_}
+use mathlib.Core.Path.{_≡_, refl, sym, ap, ap₂, _∙_}
+use mathlib.Core.Bool.{Bool, true, false, _||_}
+use mathlib.Core.List.{List, [], _∷_, _++_}
+use native.Mathlib.Omega.{arith}
+use lib.Dec.{ltb, leb, eqb, eqb·suc-zero}
+use lib.ListN.{length, getD, set}
+use lib.Seq.{set-getD}
+use borrow.Author.Tests.{ltb-false, leb-false, le-ltb, eqb-false, ne-eqb}
+use Rattle.ordered.specs.Such.{if_then_else_, no-such, such, last-such, anything}
+use Rattle.ordered.specs.Dictionary.{insert, lookup}
+use Rattle.ordered.specs.Word.{Side, left, right}
+use Rattle.ordered.specs.Tree.{Tree, none, row, damaged, Entry, exists, listing, intact}
+use Rattle.ordered.specs.Proper.{Fitting, Proper}
+use Rattle.ordered.specs.Way.{Step, Way, way, rows, joined, following, pushing}
+use Rattle.ordered.specs.Change.{Take, Adding, adding, adding-by, ends-at, pushed, left-over, numberAt}
+use Rattle.ordered.specs.Grown.{linking as turned, linked as chained, shifted, pushed-tree, grown as grown-tree}
+use Rattle.ordered.proofs.OneTree.{root-fits, proper-intact}
+use Rattle.ordered.proofs.Ways.{linked-again}
+use Rattle.ordered.proofs.Moves.{taken-by, shifted-takes, linked-append}
+use Rattle.ordered.proofs.Grown.{grown-proper, grown-listing}
+use Rattle.ordered.proofs.Answers.{adding-present}
+use Rattle.ordered.proofs.Unbroken.{adding-unbroken}
+use Rattle.pretree.specs.declared.Header.{Header}
+use Rattle.pretree.specs.declared.Answer.the-variants.{Done, WordTooWide, Full, AlreadyThere}
+use Rattle.pretree.specs.declared.Row.{Row}
+use Rattle.pretree.specs.Answer.{numberOf, keyOf}
+use Rattle.pretree.specs.Table.{capacity, rowAt, withKey, withRow}
+use Rattle.pretree.specs.Unfold.{unfolded, shown}
+use Rattle.pretree.specs.Reply.{wrong-width, wrong-header, too-wide, refused, answered}
+use Rattle.pretree.specs.Add.{Outcome, taking, hooking, grown, addOutcome}
+use Rattle.pretree.proofs.Writing.{same-capacity}
+use Rattle.demands.specs.Call.{After, after, add}
+use Rattle.demands.specs.Numbers.{numbers, often}
+use Rattle.demands.specs.Expected.{Said, Kept, only, expected, changed, kept-after}
+use Rattle.demands.specs.Demand2.{Holding, Keeps, keptBy, KeepsDictionary}
+use Rattle.demands.proofs.Tested.{shown-as, shown-once}
+use Rattle.demands.proofs.SoundIs.{held-by-listing}
+use Rattle.demands.proofs.Answered.{undamaged, lists, proper, narrow, nothing-changed}
+use Rattle.demands.proofs.Spelled.{Part, Told, Spelled, no-row, a-row, root-number, unfolded-spelled, spelled-shows}
+use Rattle.demands.proofs.Writes.{row-written, row-elsewhere, taking-length, hooking-length, row-length}
+use Rattle.demands.proofs.Rewritten.{Once, Same-places, no-place, one-place, same-places, shifted-places, joined-places, same-numbers, none-part, entries-taken, end-hooked, unchanged-taken, taking-both}
+
+-- a set with one word more
+insert-length : (x : ℕ) (s : List ℕ) → lookup x s ≡ false → length (insert x s) ≡ suc (length s)
+unfolding insert lookup
+insert-length x [] out = refl
+insert-length x (y ∷ ys) out = by-cases (ltb x y) (eqb x y) out (insert-length x ys)
+  where
+    by-cases : (a b : Bool) → (b || lookup x ys) ≡ false → (lookup x ys ≡ false → length (insert x ys) ≡ suc (length ys))
+        → length (if a then x ∷ y ∷ ys else if b then y ∷ ys else y ∷ insert x ys) ≡ suc (suc (length ys))
+    by-cases true b out rest = refl
+    by-cases false true out rest = let never : _≡_ {A = ℕ} 0 1 = cc in omega arith
+    by-cases false false out rest = ap suc (rest out)
+
+-- what is shown, row by row
+module _ {h : Header} {table S : List ℕ} (H : Holding h table S) where
+  pub shown-spelled : Spelled (rowAt table) (h .count) (shown h table)
+  shown-spelled =
+      shown-as h table (λ t. intact t ≡ true → Spelled (rowAt table) (h .count) t) (λ u. no-row)
+      (unfolded-spelled (rowAt table) (h .count) (h .width) 0 0 0) (undamaged H)
+
+  pub root-first : numberAt (shown h table) ≡ 0
+  root-first =
+      shown-as h table (λ t. intact t ≡ true → numberAt t ≡ 0) (λ u. refl) (root-number (rowAt table) (h .count) (h .width) 0 0 0) (undamaged H)
+
+  pub rows-once : Once (shown h table)
+  rows-once = shown-once h table (undamaged H)
+
+  neither : (a b : Bool) → (a || b) ≡ false → (a ≡ false) × (b ≡ false)
+  neither true b e = (e, cc)
+  neither false b e = (refl, e)
+
+  pub right-width : wrong-width (h .width) ≡ false
+  unfolding wrong-header
+  right-width = neither (wrong-width (h .width)) (ltb (capacity table) (h .count)) (H .right-header) .0
+
+  pub has-room : h .count ≤ capacity table
+  unfolding wrong-header
+  has-room = ltb-false (capacity table) (h .count) (neither (wrong-width (h .width)) (ltb (capacity table) (h .count)) (H .right-header) .1)
+
+pub rows-fit : (n : ℕ) (table : List ℕ) → n ≤ capacity table → 3 * n ≤ length table
+unfolding capacity
+rows-fit n table room = omega arith
+
+-- a proper tree that the rows of a table spell from row 0 is what the table shows
+pub shown-so :
+    (h : Header) (table : List ℕ) (t : Tree) → (h .count ≡ 0 → ⊥) → Proper (h .width) 0 0 t → Spelled (rowAt table) (h .count) t → exists t ≡ true → numberAt t ≡ 0
+    → shown h table ≡ t
+unfolding shown
+shown-so h table t some p s there root =
+    rw (ne-eqb (h .count) 0 some) (ap (unfolded (rowAt table) (h .count) (h .width) 0 0) (sym root) ∙ spelled-shows (rowAt table) (h .count) (h .width) 0 0 t p s there)
+
+-- the first row of the tree after a push is row 0
+pushed-first :
+    {ss us : List Step} → Same-places ss us → (n : ℕ) (e : Entry) (u : Tree) → numberAt (chained ss u) ≡ 0
+    → length (listing (chained us (row n e none none))) ≡ suc n
+    → (numberAt (chained us (row n e none none)) ≡ 0) × (exists (chained us (row n e none none)) ≡ true)
+unfolding chained listing
+pushed-first no-place n e u root whole = (omega arith, refl)
+pushed-first (one-place {s} {ss} {us} f p) n e u root whole = by-side (s .turn) root
+  where
+    by-side : (turn : Side) → numberAt (turned (s .at) (s .entry) turn (s .left-part) (s .right-part) (chained ss u)) ≡ 0
+        → (numberAt (turned (s .at) f turn (s .left-part) (s .right-part) (chained us (row n e none none))) ≡ 0)
+        × (exists (turned (s .at) f turn (s .left-part) (s .right-part) (chained us (row n e none none))) ≡ true)
+    by-side left root = (root, refl)
+    by-side right root = (root, refl)
+
+module _ (h : Header) (table S : List ℕ) (H : Holding h table S) (k : ℕ) where
+  abbrev t : Tree
+  t = shown h table
+
+  abbrev w : Way
+  w = way (following k) (h .width) t
+
+  abbrev push : Way
+  push = way pushing (w .bits) (w .end)
+
+  abbrev new-entry : Entry
+  new-entry = record { key = k }
+
+  abbrev before : List Step
+  before = w .passed ++ push .passed
+
+  abbrev later : List Step
+  later = w .passed ++ shifted new-entry (push .passed)
+
+  abbrev a : Adding
+  a = adding (h .width) k t
+
+  abbrev more : Header
+  more = record { width = h .width; count = suc (h .count) }
+
+  abbrev after-add : List ℕ
+  after-add = grown (h .count) a table
+
+  abbrev new-row : Tree
+  new-row = row (h .count) (left-over new-entry (push .passed)) none none
+
+  places : Same-places before later
+  places = joined-places (same-places (w .passed)) (shifted-places new-entry (push .passed))
+
+  before-whole : chained before (push .end) ≡ t
+  before-whole =
+      linked-append (w .passed) (push .passed) (push .end) ∙ ap (chained (w .passed)) (linked-again pushing (w .bits) (w .end))
+      ∙ linked-again (following k) (h .width) t
+
+  way-whole : chained (w .passed) (w .end) ≡ t
+  way-whole = linked-again (following k) (h .width) t
+
+  taken : taking (pushed new-entry (push .passed)) table ≡ taking (taken-by later) table
+  taken =
+      ap (λ ts. taking ts table) (sym (shifted-takes new-entry (push .passed)))
+      ∙ ap (taking (taken-by (shifted new-entry (push .passed))))
+      (sym (unchanged-taken (h .count) (w .passed) (w .end) table (rw way-whole (shown-spelled H))))
+      ∙ sym (taking-both (w .passed) (shifted new-entry (push .passed)) table)
+
+  module _ (absent : ends-at k w ≡ false) where
+    table-after :
+        after-add
+        ≡ withRow (h .count) (record { entry = record { key = left-over new-entry (push .passed) .key }; left = 0; right = 0 })
+        (hooking (last-such anything before) (h .count) (taking (taken-by later) table))
+    unfolding grown adding joined
+    table-after = rw (absent, taken)
+
+    tree-after : grown-tree (h .count) (h .width) k t ≡ chained later new-row
+    unfolding grown-tree pushed-tree
+    tree-after = rw absent (sym (linked-append (w .passed) (shifted new-entry (push .passed)) new-row))
+
+    module _ (room : suc (h .count) ≤ capacity table) where
+      abbrev moved : List ℕ
+      moved = taking (taken-by later) table
+
+      abbrev hooked-table : List ℕ
+      hooked-table = hooking (last-such anything before) (h .count) moved
+
+      abbrev last-row : Row
+      last-row = record { entry = record { key = left-over new-entry (push .passed) .key }; left = 0; right = 0 }
+
+      fits : 3 * h .count + 2 < length hooked-table
+      fits =
+          omega (
+            arith,
+            rows-fit (suc (h .count)) table room,
+            taking-length (taken-by later) table,
+            hooking-length (last-such anything before) (h .count) moved,
+          )
+
+      moved-spelled : Spelled (rowAt moved) (h .count) (chained later (push .end))
+      moved-spelled =
+          entries-taken (h .count) places (push .end) table (omega (arith, rows-fit (suc (h .count)) table room))
+          (rw before-whole (rows-once H)) (rw before-whole (shown-spelled H))
+
+      once-later : Once (chained later (push .end))
+      once-later j = rw (same-numbers places (push .end), before-whole) (rows-once H j)
+
+      leaf : Spelled (rowAt (withRow (h .count) last-row hooked-table)) (suc (h .count)) new-row
+      leaf =
+          let told : Told (rowAt (withRow (h .count) last-row hooked-table)) (suc (h .count)) (h .count) (left-over new-entry (push .passed)) none none =
+          record {
+            in-use = omega arith;
+            as-told = row-written (h .count) hooked-table fits last-row;
+            named = elim [ left ↦ none-part | right ↦ none-part ];
+          } in
+          a-row told no-row no-row
+
+      grown-spelled : Spelled (rowAt after-add) (suc (h .count)) (grown-tree (h .count) (h .width) k t)
+      grown-spelled =
+          rw (table-after, tree-after)
+          (end-hooked (h .count) (suc (h .count)) (push .end) new-row moved (rowAt (withRow (h .count) last-row hooked-table))
+          (omega (arith, rows-fit (suc (h .count)) table room, taking-length (taken-by later) table)) (omega arith) leaf
+          (λ some. record { not-root = λ there e. omega arith }) places once-later moved-spelled
+          (λ j below. row-elsewhere (h .count) hooked-table j (λ e. omega arith) last-row))
+
+  present-is : a .present ≡ ends-at k w
+  unfolding adding
+  present-is = by-cases (ends-at k w)
+    where
+      by-cases : (b : Bool) → adding-by k w push (joined w push) b .present ≡ b
+      by-cases true = refl
+      by-cases false = refl
+
+  same-long : length after-add ≡ length table
+  unfolding grown
+  same-long =
+      row-length (h .count) (record { entry = record { key = a .new-entry .key }; left = 0; right = 0 }) (hooking (a .hook) (h .count) (taking (a .takes) table))
+      ∙ hooking-length (a .hook) (h .count) (taking (a .takes) table) ∙ taking-length (a .takes) table
+
+  module _ (small : leb (2 ^ h .width) k ≡ false) where
+    present-so : a .present ≡ lookup k S
+    present-so = adding-present (h .width) k 0 0 t (narrow h k small) (proper H) ∙ ap (lookup k) (lists H)
+
+    module _ (out : lookup k S ≡ false) (not-full : eqb (h .count) (capacity table) ≡ false) where
+      absent : ends-at k w ≡ false
+      absent = sym present-is ∙ present-so ∙ out
+
+      room-left : suc (h .count) ≤ capacity table
+      room-left = omega (arith, has-room H, eqb-false (h .count) (capacity table) not-full)
+
+      fitting : Fitting (h .width) 0 0 k
+      fitting = root-fits (h .width) k .0 (leb-false (2 ^ h .width) k small)
+
+      abbrev new-tree : Tree
+      new-tree = grown-tree (h .count) (h .width) k t
+
+      new-proper : Proper (h .width) 0 0 new-tree
+      new-proper = grown-proper (h .width) k 0 0 t fitting (proper H) (h .count)
+
+      new-lists : listing new-tree ≡ insert k S
+      new-lists = grown-listing (h .width) k 0 0 t fitting (proper H) (h .count) ∙ ap (insert k) (lists H)
+
+      new-number : length (insert k S) ≡ suc (h .count)
+      new-number = insert-length k S out ∙ ap suc (H .holds .number)
+
+      new-first : (numberAt new-tree ≡ 0) × (exists new-tree ≡ true)
+      new-first =
+          rw (tree-after absent)
+          (pushed-first places (h .count) (left-over new-entry (push .passed)) (push .end) (ap numberAt before-whole ∙ root-first H)
+          (ap (λ u. length (listing u)) (sym (tree-after absent)) ∙ ap length new-lists ∙ new-number))
+
+      -- the table after `add` shows the tree that the push leaves
+      pub add-shows : shown more after-add ≡ new-tree
+      add-shows =
+          shown-so more after-add new-tree (λ e. omega arith) new-proper (grown-spelled absent room-left) (new-first .1) (new-first .0)
+
+      pub add-held : Holding more after-add (insert k S)
+      unfolding wrong-header
+      add-held =
+          record {
+            right-header =
+                rw (right-width H, same-capacity after-add table same-long, le-ltb (capacity table) (suc (h .count)) room-left);
+            holds =
+                held-by-listing more after-add (ap intact add-shows ∙ proper-intact (h .width) 0 0 new-tree new-proper)
+                (ap listing add-shows ∙ new-lists) new-number;
+          }
+
+  abbrev outcome : Bool → Bool → Bool → Outcome
+  outcome wide there full =
+      if wide then record { reply = refused h WordTooWide; table = table }
+      else if there then record { reply = answered h AlreadyThere (rows (a .rows-read)); table = table }
+      else if full then record { reply = refused h Full; table = table }
+      else record { reply = answered more Done (rows (a .rows-read)); table = after-add }
+
+  outcome-so : addOutcome h table k ≡ outcome (leb (2 ^ h .width) k) (a .present) (eqb (h .count) (capacity table))
+  unfolding addOutcome too-wide
+  outcome-so = rw (H .right-header, adding-unbroken (h .width) t (undamaged H) k)
+
+  pub keeps-add : (buffer : List ℕ) → KeepsDictionary (add k) h table buffer S
+  unfolding after expected kept-after changed numberOf keyOf
+  keeps-add buffer = rw outcome-so (by-width (leb (2 ^ h .width) k) refl (a .present) (λ small. present-so small))
+    where
+      said : Bool → Bool → Bool → Said
+      said wide there full = if wide then only 3 else if there then only 7 else if full then only 5 else only 0
+
+      kept : Said → Kept
+      kept answer = if eqb (answer .number) 0 then record { width = h .width; set = insert k S; buffer = buffer } else keptBy h S buffer
+
+      left-by : Outcome → After
+      left-by o = record { reply = o .reply; table = o .table; buffer = buffer }
+
+      by-room : (small : leb (2 ^ h .width) k ≡ false) (there : Bool) → lookup k S ≡ there → (full : Bool) → eqb (h .count) (capacity table) ≡ full
+          → Keeps (said false there full) (kept (said false there full)) table (left-by (outcome false there full))
+      by-room small true is full how = nothing-changed h table buffer S H (answered h AlreadyThere (rows (a .rows-read))) (only 7) refl refl
+      by-room small false is true how = nothing-changed h table buffer S H (refused h Full) (only 5) refl refl
+      by-room small false is false how =
+          record { answer = refl; width = refl; held = add-held small is how; written = refl; same-length = same-long }
+
+      by-width : (wide : Bool) → leb (2 ^ h .width) k ≡ wide → (there : Bool) → (leb (2 ^ h .width) k ≡ false → there ≡ lookup k S)
+          → Keeps (said wide (lookup k S) (eqb (length S) (capacity table))) (kept (said wide (lookup k S) (eqb (length S) (capacity table)))) table
+          (left-by (outcome wide there (eqb (h .count) (capacity table))))
+      by-width true e there so = nothing-changed h table buffer S H (refused h WordTooWide) (only 3) refl refl
+      by-width false e there so = rw (so e, H .holds .number) (by-room e (lookup k S) refl (eqb (h .count) (capacity table)) refl)

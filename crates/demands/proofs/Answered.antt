@@ -1,0 +1,177 @@
+-- Demand 2 of the calls that write no row: `has`, `next`, `prev`, `gap`, `first`, `last`, `audit`, `list`; and of `new`.
+use Prim.Native.Nat.{ℕ, zero, suc, _+_, _*_, _/_, _^_, _<_, _≤_}
+use mathlib.Core.Path.{_≡_, refl, sym, ap, _∙_}
+use mathlib.Core.Bool.{Bool, true, false}
+use mathlib.Core.List.{List, [], _∷_, _++_}
+use native.Mathlib.Omega.{arith}
+use lib.Dec.{ltb, leb, eqb}
+use lib.ListN.{length, drop, replicate, length-replicate, length-append, length-drop}
+use borrow.Author.Tests.{ltb-false, leb-false, le-ltb}
+use Rattle.ordered.specs.Such.{if_then_else_, Perhaps, no-such, such}
+use Rattle.ordered.specs.Dictionary.{lookup, min, max, successor, predecessor}
+use Rattle.ordered.specs.Tree.{Tree, listing, intact}
+use Rattle.ordered.specs.Proper.{Proper}
+use Rattle.ordered.specs.Reading.{Reading, rowsOf, brokenIn, nearest}
+use Rattle.ordered.specs.Reading.{has as has-read, next as next-read, prev as prev-read, first as first-read, last as last-read, gap as gap-read}
+use Rattle.ordered.proofs.Bits.{on-root-path}
+use Rattle.ordered.proofs.Answers.{has-answer, next-answer, prev-answer, gap-answer, first-answer, last-answer}
+use Rattle.ordered.proofs.Unbroken.{has-unbroken, next-unbroken, prev-unbroken, gap-unbroken, first-unbroken, last-unbroken}
+use Rattle.pretree.specs.declared.Header.{Header}
+use Rattle.pretree.specs.declared.Answer.{Answer}
+use Rattle.pretree.specs.declared.Answer.the-variants.{Done, Word, Distance, WrongWidth, WordTooWide, ShortBuffer}
+use Rattle.pretree.specs.declared.Reply.{Reply}
+use Rattle.pretree.specs.Answer.{numberOf, keyOf}
+use Rattle.pretree.specs.Table.{capacity}
+use Rattle.pretree.specs.Unfold.{shown}
+use Rattle.pretree.specs.Sound.{isSound}
+use Rattle.pretree.specs.Reply.{fresh, wrong-width, wrong-header, too-wide, refused, answered}
+use Rattle.pretree.specs.Find.{saying, done, read-reply, hasReply, nextReply, prevReply, gapReply, firstReply, lastReply}
+use Rattle.pretree.specs.Whole.{newReply, newTable, auditReply, listReply, listBuffer}
+use Rattle.demands.specs.Call.{Call, After, after, new, add, del, has, next, prev, gap, first, last, audit, list}
+use Rattle.demands.specs.Expected.{Said, Kept, only, word, of-width, expected, changed, kept-after}
+use Rattle.demands.specs.Demand2.{Holding, saidIn, Keeps, keptBy, KeepsDictionary}
+use Rattle.demands.proofs.Tested.{shown-proper}
+use Rattle.demands.proofs.SoundIs.{tree-intact, tree-listing, test-of-set, held-by-listing}
+
+-- document 01's number and key of an answer
+abbrev pub said-by : Answer → Said
+said-by a = record { number = numberOf a; key = keyOf a }
+
+said-word : (p : Perhaps ℕ) → said-by (saying Word p) ≡ word p
+unfolding numberOf keyOf
+said-word no-such = refl
+said-word (such x) = refl
+
+said-distance : (p : Perhaps ℕ) → said-by (saying Distance p) ≡ word p
+unfolding numberOf keyOf
+said-distance no-such = refl
+said-distance (such x) = refl
+
+said-done : (b : Bool) (k : ℕ) → said-by (saying done (if b then such k else no-such)) ≡ (if b then only 0 else only 8)
+unfolding numberOf keyOf
+said-done true k = refl
+said-done false k = refl
+
+either-way : {A : Type 0} (b : Bool) (x : A) → (if b then x else x) ≡ x
+either-way true x = refl
+either-way false x = refl
+
+-- what a header and table that hold the set S show
+module _ {h : Header} {table S : List ℕ} (H : Holding h table S) where
+  pub undamaged : intact (shown h table) ≡ true
+  undamaged = tree-intact h table S (H .holds .increasing) (H .holds .below) (H .holds .tree)
+
+  pub lists : listing (shown h table) ≡ S
+  lists = tree-listing h table S (H .holds .increasing) (H .holds .below) (H .holds .tree)
+
+  pub proper : Proper (h .width) 0 0 (shown h table)
+  proper = shown-proper h table undamaged
+
+-- "k is 2^W or more", or it is on the path of the root
+pub narrow : (h : Header) (k : ℕ) → leb (2 ^ h .width) k ≡ false → k / 2 ^ h .width ≡ 0
+narrow h k e = on-root-path (h .width) k .0 (leb-false (2 ^ h .width) k e)
+
+module _ (h : Header) (table buffer S : List ℕ) (H : Holding h table S) where
+  abbrev kept : Kept
+  kept = keptBy h S buffer
+
+  abbrev leaving : Reply → After
+  leaving r = record { reply = r; table = table; buffer = buffer }
+
+  -- an answer that changes nothing
+  pub nothing-changed : (r : Reply) (said : Said) → saidIn r ≡ said → r .header ≡ h → Keeps said kept table (leaving r)
+  nothing-changed r said e same =
+      record { answer = e; width = ap (λ g. g .width) same; held = rw same H; written = refl; same-length = refl }
+
+  -- a call that reads: 3, or what was found
+  read : (wide : Bool) (word : ℕ → Answer) (r : Reading) (said : Said) → brokenIn (r .ways) ≡ false
+      → (wide ≡ false → said-by (saying word (r .answer)) ≡ said)
+      → let all : Said = if wide then only 3 else said in
+      Keeps all (if eqb (all .number) 0 then kept else kept) table (leaving (read-reply h table wide word r))
+  unfolding numberOf keyOf
+  read wide word r said sound found =
+      rw (either-way (eqb ((if wide then only 3 else said) .number) 0) kept, H .right-header, sound) (either wide found)
+    where
+      either : (b : Bool) → (b ≡ false → said-by (saying word (r .answer)) ≡ said)
+          → Keeps (if b then only 3 else said) kept table (leaving (if b then refused h WordTooWide else answered h (saying word (r .answer)) (rowsOf (r .ways))))
+      either true found = nothing-changed (refused h WordTooWide) (only 3) refl refl
+      either false found = nothing-changed (answered h (saying word (r .answer)) (rowsOf (r .ways))) said (found refl) refl
+
+  abbrev t : Tree
+  t = shown h table
+
+  module _ (k : ℕ) where
+    pub keeps-has : KeepsDictionary (has k) h table buffer S
+    unfolding after expected kept-after changed hasReply too-wide
+    keeps-has =
+        read (leb (2 ^ h .width) k) done (has-read (h .width) k t) (if lookup k S then only 0 else only 8) (has-unbroken (h .width) t (undamaged H) k)
+        (λ e. ap (λ p. said-by (saying done p)) (has-answer (h .width) k 0 0 t (narrow h k e) (proper H) ∙ ap (λ xs. if lookup k xs then such k else no-such) (lists H)) ∙ said-done (lookup k S) k)
+
+    pub keeps-next : KeepsDictionary (next k) h table buffer S
+    unfolding after expected kept-after changed nextReply too-wide
+    keeps-next =
+        read (leb (2 ^ h .width) k) Word (next-read (h .width) k t) (word (successor k S)) (next-unbroken (h .width) t (undamaged H) k)
+        (λ e. said-word (next-read (h .width) k t .answer) ∙ ap word (next-answer (h .width) k 0 0 t (narrow h k e) (proper H) ∙ ap (successor k) (lists H)))
+
+    pub keeps-prev : KeepsDictionary (prev k) h table buffer S
+    unfolding after expected kept-after changed prevReply too-wide
+    keeps-prev =
+        read (leb (2 ^ h .width) k) Word (prev-read (h .width) k t) (word (predecessor k S)) (prev-unbroken (h .width) t (undamaged H) k)
+        (λ e. said-word (prev-read (h .width) k t .answer) ∙ ap word (prev-answer (h .width) k 0 0 t (narrow h k e) (proper H) ∙ ap (predecessor k) (lists H)))
+
+    abbrev distance : List ℕ → Perhaps ℕ
+    distance xs = if lookup k xs then such 0 else nearest k (predecessor k xs) (successor k xs)
+
+    pub keeps-gap : KeepsDictionary (gap k) h table buffer S
+    unfolding after expected kept-after changed gapReply too-wide
+    keeps-gap =
+        read (leb (2 ^ h .width) k) Distance (gap-read (h .width) k t) (word (distance S)) (gap-unbroken (h .width) t (undamaged H) k)
+        (λ e. said-distance (gap-read (h .width) k t .answer) ∙ ap word (gap-answer (h .width) k 0 0 t (narrow h k e) (proper H) ∙ ap distance (lists H)))
+
+  pub keeps-first : KeepsDictionary first h table buffer S
+  unfolding after expected kept-after changed firstReply
+  keeps-first =
+      read false Word (first-read (h .width) t) (word (min S)) (first-unbroken (h .width) t (undamaged H))
+      (λ e. said-word (first-read (h .width) t .answer) ∙ ap word (first-answer (h .width) t ∙ ap min (lists H)))
+
+  pub keeps-last : KeepsDictionary last h table buffer S
+  unfolding after expected kept-after changed lastReply
+  keeps-last =
+      read false Word (last-read (h .width) t) (word (max S)) (last-unbroken (h .width) t (undamaged H))
+      (λ e. said-word (last-read (h .width) t .answer) ∙ ap word (last-answer (h .width) 0 0 t (proper H) ∙ ap max (lists H)))
+
+  pub keeps-audit : KeepsDictionary audit h table buffer S
+  unfolding after expected kept-after changed auditReply numberOf keyOf
+  keeps-audit = rw (H .right-header, test-of-set (H .holds)) (nothing-changed (answered h Done (h .count)) (only 0) refl refl)
+
+  pub keeps-list : KeepsDictionary list h table buffer S
+  unfolding after expected kept-after changed listReply listBuffer numberOf keyOf
+  keeps-list = rw (H .right-header, test-of-set (H .holds), lists H, H .holds .number) (either (ltb (length buffer) (h .count)))
+    where
+      either : (b : Bool) → Keeps (if b then only 6 else only 0) (if eqb ((if b then only 6 else only 0) .number) 0 then record { width = h .width; set = S; buffer = S ++ drop (h .count) buffer } else kept) table
+          (record { reply = if b then refused h ShortBuffer else answered h Done (h .count); table = table; buffer = if b then buffer else S ++ drop (h .count) buffer })
+      either true = nothing-changed (refused h ShortBuffer) (only 6) refl refl
+      either false = record { answer = refl; width = refl; held = H; written = refl; same-length = refl }
+
+  abbrev clean : List ℕ
+  clean = replicate (3 * capacity table) 0 ++ drop (3 * capacity table) table
+
+  clean-length : length clean ≡ length table
+  unfolding capacity
+  clean-length = rw (length-append, length-replicate, length-drop) (omega arith)
+
+  clean-held : (w : ℕ) → wrong-width w ≡ false → Holding (fresh w) clean []
+  unfolding wrong-header shown listing intact
+  clean-held w right =
+      record { right-header = rw (right, le-ltb (capacity clean) 0 (omega arith)); holds = held-by-listing (fresh w) clean refl refl refl }
+
+  -- "it clears every row and hands back its W with a count of 0"
+  pub keeps-new : (w : ℕ) → KeepsDictionary (new w) h table buffer S
+  unfolding after expected kept-after changed newReply newTable numberOf keyOf
+  keeps-new w = either (wrong-width w) refl
+    where
+      either : (b : Bool) → wrong-width w ≡ b
+          → Keeps (if b then only 1 else only 0) (if eqb ((if b then only 1 else only 0) .number) 0 then record { width = w; set = []; buffer = buffer } else kept) table
+          (record { reply = if b then refused h WrongWidth else answered (fresh w) Done 0; table = if b then table else clean; buffer = buffer })
+      either true e = nothing-changed (refused h WrongWidth) (only 1) refl refl
+      either false e = record { answer = refl; width = refl; held = clean-held w e; written = refl; same-length = clean-length }

@@ -1,0 +1,678 @@
+-- Demand 2 of `del`: its writes do to the table what the erase does to the tree, and the move of the last row changes row numbers alone.
+-- Document 01: "The order is: keys up, unlink, move, set the link."
+use Prim.Native.Nat.{ℕ, zero, suc, pred, _+_, _*_, _/_, _^_, _<_, _≤_}
+use mathlib.Core.Path.{_≡_, refl, sym, ap, ap₂, _∙_}
+use mathlib.Core.Bool.{Bool, true, false, not, _&&_, _||_, false≢true}
+use mathlib.Core.List.{List, [], _∷_, _++_, map, map-append}
+use mathlib.Core.List.{List·Memᴰ·head, List·Memᴰ·tail, Memᴰ·cast}
+use native.Mathlib.Omega.{arith}
+use lib.Dec.{ltb, leb, eqb}
+use lib.ListN.{length}
+use lib.Seq.{getD-set-other}
+use borrow.Author.Tests.{ltb-false, leb-false, eqb-true, eqb-false, lt-ltb, le-ltb, eq-eqb, ne-eqb}
+use Rattle.ordered.specs.Such.{if_then_else_, Perhaps, no-such, such, only-if, last-such, anything}
+use Rattle.ordered.specs.Word.{Side, left, right, other, bitOf}
+use Rattle.ordered.specs.Dictionary.{Above, none-above, one-above, Increasing, none-increasing, one-increasing, delete, lookup}
+use Rattle.ordered.specs.Said.{_∈_}
+use Rattle.ordered.specs.Tree.{Tree, none, row, damaged, Entry, part, exists, listing, intact, unnumbered}
+use Rattle.ordered.specs.Proper.{Fitting, Proper}
+use Rattle.ordered.specs.Way.{Step, Way, Rule, stop, to, way, rows, broken, joined, following, down}
+use Rattle.ordered.specs.Reading.{keyAt, has}
+use Rattle.ordered.specs.Change.{Take, Erasing, erasing, erasing-by, isThere, ends-at, above-end, raised, numberAt, entryAt}
+use Rattle.ordered.specs.Grown.{linking as turned, linked as chained, lifted, popped-tree, shrunk as shrunk-tree}
+use Rattle.ordered.proofs.Bits.{on-root-path}
+use Rattle.ordered.proofs.Parts.{All, all-map, above-all, delete-absent}
+use Rattle.ordered.proofs.OneTree.{root-fits, proper-intact}
+use Rattle.ordered.proofs.Dictionary.{lookup-whether}
+use Rattle.ordered.proofs.Lists.{above-less}
+use Rattle.ordered.proofs.Ways.{at-bottom, at-none, at-damage, at-stop, Stops, At-end, Onward, along, linked-again, unbroken}
+use Rattle.ordered.proofs.Moves.{taken-by, lifted-takes, linked-append}
+use Rattle.ordered.proofs.Grown.{shrunk-proper, shrunk-listing}
+use Rattle.ordered.proofs.Answers.{has-answer, erasing-present}
+use Rattle.ordered.proofs.Unbroken.{erasing-unbroken}
+use Rattle.pretree.specs.declared.Header.{Header}
+use Rattle.pretree.specs.declared.Answer.the-variants.{Done, WordTooWide, Damage, NoSuchWord}
+use Rattle.pretree.specs.declared.Row.{Row}
+use Rattle.pretree.specs.Answer.{numberOf, keyOf}
+use Rattle.pretree.specs.Table.{capacity, rowAt, link, withKey, withLink, withRow, cleared}
+use Rattle.pretree.specs.Unfold.{unfolded, shown}
+use Rattle.pretree.specs.Reply.{wrong-width, wrong-header, too-wide, refused, answered}
+use Rattle.pretree.specs.Add.{Outcome, taking, hooking}
+use Rattle.pretree.specs.Del.{secondWay, astray, moving, shrunk, delOutcome}
+use Rattle.pretree.proofs.Writing.{same-capacity}
+use Rattle.demands.specs.Call.{After, after, del}
+use Rattle.demands.specs.Numbers.{numbers, often, renamed}
+use Rattle.demands.specs.Expected.{Said, Kept, only, expected, changed, kept-after}
+use Rattle.demands.specs.Demand2.{Holding, Keeps, keptBy, KeepsDictionary}
+use Rattle.demands.proofs.Numbers.{intact-unnumbered, listing-unnumbered, unnumbered-renamed}
+use Rattle.demands.proofs.Links.{linking, moved-into, LastMoved, last-row-moved}
+use Rattle.demands.proofs.SoundIs.{held-by-listing}
+use Rattle.demands.proofs.Answered.{undamaged, lists, proper, narrow, nothing-changed}
+use Rattle.demands.proofs.Spelled.{row-of, Part, Told, Spelled, no-row, a-row, spelled-shows, spelled-frame}
+use Rattle.demands.proofs.Writes.{row-written, row-elsewhere, link-written, link-elsewhere, taking-length, hooking-length, row-length}
+use Rattle.demands.proofs.Rewritten.{Once, in-often, often-in, Same-places, no-place, one-place, same-places, lifted-places, joined-places, same-numbers, none-part, entries-taken, end-hooked, unchanged-taken, taking-both, chained-often, end-spelled, Hook-told, no-hook, hook-told, hook-is}
+use Rattle.demands.proofs.Added.{shown-spelled, root-first, rows-once, right-width, has-room, rows-fit, shown-so}
+
+-- a set with one word less
+delete-length : (x : ℕ) {s : List ℕ} → Increasing s → lookup x s ≡ true → suc (length (delete x s)) ≡ length s
+unfolding delete lookup
+delete-length x none-increasing there = absurd (false≢true there)
+delete-length x (one-increasing {x = y} {xs = ys} a h) there = by-cases (eqb x y) refl there (delete-length x h)
+  where
+    by-cases : (b : Bool) → eqb x y ≡ b → (b || lookup x ys) ≡ true → (lookup x ys ≡ true → suc (length (delete x ys)) ≡ length ys)
+        → suc (length (if b then delete x ys else y ∷ delete x ys)) ≡ suc (length ys)
+    by-cases true e there rest =
+        let same : x ≡ y = eqb-true x y e in
+        ap (λ zs. suc (length zs)) (delete-absent x ys (all-map (λ z less. ne-eqb x z (λ equal. omega arith)) (above-all a)))
+    by-cases false e there rest = ap suc (rest there)
+
+-- where an erase ends: at a row without parts
+data Leaf : Tree → Type 0 where
+  leaf : {i : ℕ} {e : Entry} → Leaf (row i e none none)
+
+absent-part : (t : Tree) → exists t ≡ false → t ≡ none
+absent-part none e = refl
+absent-part (row i e l r) e′ = cc
+absent-part damaged e = cc
+
+end-proper : (f : Rule) (m : ℕ) (t : Tree) (path low : ℕ) → Proper m path low t
+    → (path′ : ℕ) × (low′ : ℕ) × Proper (way f m t .bits) path′ low′ (way f m t .end)
+unfolding Proper
+end-proper f =
+    along f (λ m t w. (path low : ℕ) → Proper m path low t → (path′ : ℕ) × (low′ : ℕ) × Proper (w .bits) path′ low′ (w .end))
+    (λ m t ends path low h. (path, low, h)) (λ m i e l r s says rest path low h. rest (path * 2 + bitOf s) (suc (e .key)) (h .parts s))
+
+leaf-end : (m : ℕ) (t : Tree) (path low : ℕ) → Proper m path low t → exists t ≡ true → Leaf (way (down left) m t .end)
+unfolding Proper down
+leaf-end = along (down left) (λ m t w. (path low : ℕ) → Proper m path low t → exists t ≡ true → Leaf (w .end)) ends goes
+  where
+    ends : At-end (down left) (λ m t w. (path low : ℕ) → Proper m path low t → exists t ≡ true → Leaf (w .end))
+    ends zero none at-bottom path low h there = absurd (false≢true there)
+    ends zero (row i e l r) at-bottom path low h there = rw (h .parts left, h .parts right) (leaf {i = i} {e = e})
+    ends zero damaged at-bottom path low h there = absurd h
+    ends (suc m) none at-none path low h there = absurd (false≢true there)
+    ends (suc m) damaged at-damage path low h there = absurd h
+    ends (suc m) (row i e l r) (at-stop says) path low h there = both-none (exists l) refl (exists r) refl says
+      where
+        both-none : (a : Bool) → exists l ≡ a → (b : Bool) → exists r ≡ b → (if a then to left else if b then to right else stop) ≡ stop → Leaf (row i e l r)
+        both-none true is-left b is-right says = let never : _≡_ {A = ℕ} 0 1 = cc in absurd (omega arith)
+        both-none false is-left true is-right says = let never : _≡_ {A = ℕ} 0 1 = cc in absurd (omega arith)
+        both-none false is-left false is-right says = rw (absent-part l is-left, absent-part r is-right) (leaf {i = i} {e = e})
+
+    goes : Onward (down left) (λ m t w. (path low : ℕ) → Proper m path low t → exists t ≡ true → Leaf (w .end))
+    goes m i e l r s says rest path low h there =
+        rest (path * 2 + bitOf s) (suc (e .key)) (h .parts s) (onward s (exists l) refl (exists r) refl says)
+      where
+        onward : (s : Side) (a : Bool) → exists l ≡ a → (b : Bool) → exists r ≡ b → (if a then to left else if b then to right else stop) ≡ to s → exists (part s l r) ≡ true
+        onward left true is-left b is-right says = is-left
+        onward left false is-left true is-right says = cc
+        onward left false is-left false is-right says = cc
+        onward right true is-left b is-right says = cc
+        onward right false is-left true is-right says = is-right
+        onward right false is-left false is-right says = cc
+
+-- the way of k that ends at k ends at a row
+ends-row : (k : ℕ) (t : Tree) → isThere (only-if (eqb k) (keyAt t)) ≡ true → exists t ≡ true
+ends-row k none e = e
+ends-row k (row i e l r) e′ = refl
+ends-row k damaged e = cc
+
+-- the words that rows spell are their keys
+module _ (rows : ℕ → Row) (n : ℕ) where
+  abbrev keyOf-row : ℕ → ℕ
+  keyOf-row j = rows j .entry .key
+
+  spelled-keys : (t : Tree) → Spelled rows n t → listing t ≡ map keyOf-row (numbers t)
+  unfolding listing numbers
+  spelled-keys none s = refl
+  spelled-keys (row i e l r) (a-row s u v) =
+      rw (map-append, spelled-keys l u, spelled-keys r v)
+      (ap (λ k. k ∷ (map keyOf-row (numbers l) ++ map keyOf-row (numbers r))) (sym (ap (λ x. x .entry .key) (s .as-told))))
+
+in-map : (key : ℕ → ℕ) {xs : List ℕ} {i : ℕ} → i ∈ xs → key i ∈ map key xs
+in-map key (List·Memᴰ·head e) = List·Memᴰ·head (ap key e)
+in-map key (List·Memᴰ·tail there) = List·Memᴰ·tail (in-map key there)
+
+-- so no two rows have one key
+one-key : (key : ℕ → ℕ) (xs : List ℕ) {i j : ℕ} → Increasing (map key xs) → i ∈ xs → j ∈ xs → key i ≡ key j → i ≡ j
+one-key key (x ∷ xs) (one-increasing a h) (List·Memᴰ·head e) (List·Memᴰ·head e′) same = e ∙ sym e′
+one-key key (x ∷ xs) (one-increasing a h) (List·Memᴰ·head e) (List·Memᴰ·tail there) same =
+    absurd (omega (arith, above-less a (in-map key there), ap key e))
+one-key key (x ∷ xs) (one-increasing a h) (List·Memᴰ·tail there) (List·Memᴰ·head e) same =
+    absurd (omega (arith, above-less a (in-map key there), ap key e))
+one-key key (x ∷ xs) (one-increasing a h) (List·Memᴰ·tail there) (List·Memᴰ·tail there′) same = one-key key xs h there there′ same
+
+-- writes of keys leave every link
+taking-link : (ts : List Take) (table : List ℕ) (j : ℕ) (s : Side) → link (rowAt (taking ts table) j) s ≡ link (rowAt table j) s
+unfolding taking withKey rowAt
+taking-link [] table j s = refl
+taking-link (x ∷ ts) table j s = taking-link ts (withKey (x .at) (x .entry .key) table) j s ∙ key-link (x .at) (x .entry .key) s
+  where
+    key-link : (i k : ℕ) (s : Side) → link (rowAt (withKey i k table) j) s ≡ link (rowAt table j) s
+    key-link i k left = getD-set-other table (3 * i) (3 * j + 1) k 0 (λ e. omega arith)
+    key-link i k right = getD-set-other table (3 * i) (3 * j + 2) k 0 (λ e. omega arith)
+
+-- a link that is not the one that is set stays
+hooking-link :
+    (p : Perhaps Step) (v : ℕ) (table : List ℕ) (j : ℕ) (s : Side)
+    → ((q : Step) → p ≡ such q → (3 * q .at + 2 < length table) × (q .at ≡ j → q .turn ≡ s → ⊥))
+    → link (rowAt (hooking p v table) j) s ≡ link (rowAt table j) s
+hooking-link no-such v table j s differs = refl
+hooking-link (such q) v table j s differs = by-cases (eqb j (q .at)) refl
+  where
+    beside : (turn s : Side) (r : Row) → (turn ≡ s → ⊥) → link (linking turn v r) s ≡ link r s
+    beside left left r apart = absurd (apart refl)
+    beside left right r apart = refl
+    beside right left r apart = refl
+    beside right right r apart = absurd (apart refl)
+
+    by-cases : (b : Bool) → eqb j (q .at) ≡ b → link (rowAt (withLink (q .at) (q .turn) v table) j) s ≡ link (rowAt table j) s
+    by-cases true e =
+        let same : j ≡ q .at = eqb-true j (q .at) e in
+        ap (λ i. link (rowAt (withLink (q .at) (q .turn) v table) i) s) same
+        ∙ ap (λ r. link r s) (link-written (q .at) table (differs q refl .0) (q .turn) v)
+        ∙ beside (q .turn) s (rowAt table (q .at)) (differs q refl .1 (sym same)) ∙ ap (λ i. link (rowAt table i) s) (sym same)
+    by-cases false e = ap (λ r. link r s) (link-elsewhere (q .at) table j (eqb-false j (q .at) e) (q .turn) v)
+
+-- what a row without parts tells
+record Leaf-told (rows : ℕ → Row) (n : ℕ) (u : Tree) : Type 0 where
+  in-use : numberAt u < n
+  inside : numberAt u ∈ numbers u
+  alone : (j : ℕ) → (j ≡ numberAt u → ⊥) → often j (numbers u) ≡ 0
+  no-links : (s : Side) → link (rows (numberAt u)) s ≡ 0
+
+leaf-told : {rows : ℕ → Row} {n : ℕ} (u : Tree) → Leaf u → Spelled rows n u → Leaf-told rows n u
+unfolding numbers often
+leaf-told (row i e none none) leaf (a-row told u v) =
+    record {
+      in-use = told .in-use;
+      inside = List·Memᴰ·head refl;
+      alone = λ j apart. rw (ne-eqb j i apart);
+      no-links = elim [ left ↦ ap (λ x. x .left) (told .as-told) | right ↦ ap (λ x. x .right) (told .as-told) ];
+    }
+
+-- the row at which the way of a word ends, where the word is there
+end-is :
+    {rows : ℕ → Row} {n : ℕ} (x : ℕ) (u : Tree) → Spelled rows n u → only-if (eqb x) (keyAt u) ≡ such x
+    → (rows (numberAt u) .entry .key ≡ x) × (numberAt u ∈ numbers u)
+unfolding numbers
+end-is x none s found = let never : _≡_ {A = ℕ} 0 1 = cc in absurd (omega arith)
+end-is {rows} x (row i e l r) (a-row told u v) found = by-cases (eqb x (e .key)) refl found
+  where
+    by-cases : (b : Bool) → eqb x (e .key) ≡ b → (if b then such (e .key) else no-such) ≡ such x → (rows i .entry .key ≡ x) × (i ∈ numbers (row i e l r))
+    by-cases true same found = (ap (λ y. y .entry .key) (told .as-told) ∙ sym (eqb-true x (e .key) same), List·Memᴰ·head refl)
+    by-cases false same found = let never : _≡_ {A = ℕ} 0 1 = cc in absurd (omega arith)
+
+hook-names :
+    {rows : ℕ → Row} {n : ℕ} {ss : List Step} {u : Tree} {q : Step} → Hook-told rows n ss u (such q)
+    → (q .at ∈ numbers (chained ss none)) × (q .at < n) × (link (rows (q .at)) (q .turn) ≡ numberAt u)
+hook-names (hook-told there in-use names) = (there, in-use, names)
+
+-- the first row of the tree after an erase is row 0
+popped-first : {ss us : List Step} → Same-places ss us → (u : Tree) → numberAt (chained ss u) ≡ 0 → numberAt (chained us none) ≡ 0
+unfolding chained
+popped-first no-place u root = refl
+popped-first (one-place {s} {ss} {us} f p) u root = by-side (s .turn) root
+  where
+    by-side : (turn : Side) → numberAt (turned (s .at) (s .entry) turn (s .left-part) (s .right-part) (chained ss u)) ≡ 0
+        → numberAt (turned (s .at) f turn (s .left-part) (s .right-part) (chained us none)) ≡ 0
+    by-side left root = root
+    by-side right root = root
+
+listed-there : (t : Tree) → (length (listing t) ≡ 0 → ⊥) → exists t ≡ true
+unfolding listing
+listed-there none some = absurd (some refl)
+listed-there (row i e l r) some = refl
+listed-there damaged some = refl
+
+root-in : (t : Tree) {rows : ℕ → Row} {n : ℕ} → Spelled rows n t → exists t ≡ true → numberAt t ∈ numbers t
+unfolding numbers
+root-in none s there = absurd (false≢true there)
+root-in (row i e l r) s there = List·Memᴰ·head refl
+
+-- other row numbers, the same words
+renamed-intact : (σ : ℕ → ℕ) (t : Tree) → intact (renamed σ t) ≡ intact t
+renamed-intact σ t = sym (intact-unnumbered (renamed σ t)) ∙ ap intact (unnumbered-renamed σ t) ∙ intact-unnumbered t
+
+renamed-listing : (σ : ℕ → ℕ) (t : Tree) → listing (renamed σ t) ≡ listing t
+renamed-listing σ t = sym (listing-unnumbered (renamed σ t)) ∙ ap listing (unnumbered-renamed σ t) ∙ listing-unnumbered t
+
+root-stays : (hole last : ℕ) → (last ≡ 0 → ⊥) → moved-into hole last 0 ≡ 0
+unfolding moved-into
+root-stays hole last some = rw (ne-eqb 0 last (λ e. some (sym e)))
+
+shown-root : (h : Header) (table : List ℕ) → (h .count ≡ 0 → ⊥) → shown h table ≡ unfolded (rowAt table) (h .count) (h .width) 0 0 0
+unfolding shown
+shown-root h table some = rw (ne-eqb (h .count) 0 some)
+
+one-more : (n : ℕ) → 0 < n → n ≡ suc (pred n)
+one-more zero some = absurd (omega arith)
+one-more (suc n) some = refl
+
+no-words : (xs : List ℕ) → length xs ≡ 0 → xs ≡ []
+no-words [] e = refl
+no-words (x ∷ xs) e = absurd (omega arith)
+
+module _ (h : Header) (table S : List ℕ) (H : Holding h table S) (k : ℕ) where
+  abbrev t : Tree
+  t = shown h table
+
+  abbrev w : Way
+  w = way (following k) (h .width) t
+
+  abbrev stretch : Way
+  stretch = way (down left) (w .bits) (w .end)
+
+  abbrev before : List Step
+  before = w .passed ++ stretch .passed
+
+  abbrev later : List Step
+  later = w .passed ++ lifted (stretch .passed) (entryAt (stretch .end))
+
+  abbrev e : Erasing
+  e = erasing (h .width) k t
+
+  abbrev last : ℕ
+  last = pred (h .count)
+
+  abbrev less : Header
+  less = record { width = h .width; count = last }
+
+  abbrev second : Way
+  second = secondWay h table
+
+  abbrev hole : ℕ
+  hole = numberAt (stretch .end)
+
+  places : Same-places before later
+  places = joined-places (same-places (w .passed)) (lifted-places (stretch .passed) (entryAt (stretch .end)))
+
+  way-whole : chained (w .passed) (w .end) ≡ t
+  way-whole = linked-again (following k) (h .width) t
+
+  before-whole : chained before (stretch .end) ≡ t
+  before-whole =
+      linked-append (w .passed) (stretch .passed) (stretch .end) ∙ ap (chained (w .passed)) (linked-again (down left) (w .bits) (w .end)) ∙ way-whole
+
+  taken : taking (raised (stretch .passed) (entryAt (stretch .end))) table ≡ taking (taken-by later) table
+  taken =
+      ap (λ ts. taking ts table) (sym (lifted-takes (stretch .passed) (entryAt (stretch .end))))
+      ∙ ap (taking (taken-by (lifted (stretch .passed) (entryAt (stretch .end)))))
+      (sym (unchanged-taken (h .count) (w .passed) (w .end) table (rw way-whole (shown-spelled H))))
+      ∙ sym (taking-both (w .passed) (lifted (stretch .passed) (entryAt (stretch .end))) table)
+
+  fit : 3 * h .count ≤ length table
+  fit = rows-fit (h .count) table (has-room H)
+
+  -- keys up, and the hole unlinked
+  abbrev raised-table : List ℕ
+  raised-table = taking (taken-by later) table
+
+  abbrev unlinked : List ℕ
+  unlinked = hooking (last-such anything before) 0 raised-table
+
+  raised-long : length raised-table ≡ length table
+  raised-long = taking-length (taken-by later) table
+
+  unlinked-long : length unlinked ≡ length table
+  unlinked-long = hooking-length (last-such anything before) 0 raised-table ∙ raised-long
+
+  abbrev new-tree : Tree
+  new-tree = chained later none
+
+  once-later : Once (chained later (stretch .end))
+  once-later j = rw (same-numbers places (stretch .end), before-whole) (rows-once H j)
+
+  unlinked-spelled : Spelled (rowAt unlinked) (h .count) new-tree
+  unlinked-spelled =
+      end-hooked (h .count) (h .count) (stretch .end) none raised-table (rowAt unlinked) (omega (arith, fit, raised-long)) (omega arith) no-row
+      (λ some. none-part) places once-later
+      (entries-taken (h .count) places (stretch .end) table fit (rw before-whole (rows-once H)) (rw before-whole (shown-spelled H)))
+      (λ j below. refl)
+
+  module _ (present : ends-at k w ≡ true) where
+    tree-after : shrunk-tree (h .width) k t ≡ new-tree
+    unfolding shrunk-tree popped-tree
+    tree-after = rw present (sym (linked-append (w .passed) (lifted (stretch .passed) (entryAt (stretch .end))) none))
+
+    end-leaf : Leaf (stretch .end)
+    end-leaf =
+        let p = end-proper (following k) (h .width) t 0 0 (proper H) in
+        leaf-end (w .bits) (w .end) (p .0) (p .1) (p .2) (ends-row k (w .end) present)
+
+    hole-told : Leaf-told (rowAt table) (h .count) (stretch .end)
+    hole-told = leaf-told (stretch .end) end-leaf (end-spelled (rowAt table) (h .count) before (stretch .end) (rw before-whole (shown-spelled H)))
+
+    one-row : h .count ≡ suc last
+    one-row = one-more (h .count) (omega (arith, hole-told .in-use))
+
+    numbers-same : numbers (chained later (stretch .end)) ≡ numbers t
+    numbers-same = same-numbers places (stretch .end) ∙ ap numbers before-whole
+
+    hole-out : hole ∈ numbers new-tree → ⊥
+    hole-out there = omega (arith, once-later hole, chained-often later (stretch .end) hole, in-often there, in-often (hole-told .inside))
+
+    still-there : (j : ℕ) → j ∈ numbers t → (j ≡ hole → ⊥) → j ∈ numbers new-tree
+    still-there j there apart =
+        often-in j (numbers new-tree)
+        (omega (arith, chained-often later (stretch .end) j, ap (often j) numbers-same, in-often there, hole-told .alone j apart))
+
+    abbrev final : Bool → List ℕ
+    final moves = withRow last cleared (if moves then moving hole last second unlinked else unlinked)
+
+    table-after : (moves : Bool) → shrunk last e second moves table ≡ final moves
+    unfolding shrunk erasing joined
+    table-after moves = rw (present, taken)
+
+    hole-same : e .hole ≡ hole
+    unfolding erasing
+    hole-same = rw present
+
+    module _ (small : leb (2 ^ h .width) k ≡ false) (there : lookup k S ≡ true) where
+      fitting : Fitting (h .width) 0 0 k
+      fitting = root-fits (h .width) k .0 (leb-false (2 ^ h .width) k small)
+
+      new-proper : Proper (h .width) 0 0 new-tree
+      new-proper = rw tree-after at (shrunk-proper (h .width) k 0 0 t fitting (proper H))
+
+      new-lists : listing new-tree ≡ delete k S
+      new-lists = ap listing (sym tree-after) ∙ shrunk-listing (h .width) k 0 0 t fitting (proper H) ∙ ap (delete k) (lists H)
+
+      new-number : length (delete k S) ≡ last
+      new-number = omega (arith, delete-length k (H .holds .increasing) there, H .holds .number, one-row)
+
+      new-first : numberAt new-tree ≡ 0
+      new-first = popped-first places (stretch .end) (ap numberAt before-whole ∙ root-first H)
+
+      abbrev Shows : List ℕ → Type 0
+      Shows after = (intact (shown less after) ≡ true) × (listing (shown less after) ≡ delete k S)
+
+      -- the last word goes
+      none-left : last ≡ 0 → (after : List ℕ) → Shows after
+      unfolding shown intact listing
+      none-left empty after = rw (eq-eqb last 0 empty) (refl, sym (no-words (delete k S) (new-number ∙ empty)))
+
+      module _ (some : last ≡ 0 → ⊥) where
+        new-there : exists new-tree ≡ true
+        new-there = listed-there new-tree (λ e. some (sym new-number ∙ ap length (sym new-lists) ∙ e))
+
+        -- the hole is the last row: nothing moves
+        stays : hole ≡ last → Shows (final false)
+        stays same =
+            let so : shown less (final false) ≡ new-tree =
+            shown-so less (final false) new-tree some new-proper
+            (spelled-frame new-tree unlinked-spelled (λ j inside below.
+            let apart : j ≡ last → ⊥ = λ e. hole-out (Memᴰ·cast (same ∙ sym e) inside) in
+            (omega (arith, one-row), row-elsewhere last unlinked j apart cleared)))
+            new-there new-first in
+            (ap intact so ∙ proper-intact (h .width) 0 0 new-tree new-proper, ap listing so ∙ new-lists)
+
+    -- the second way: the way of the last row's key ends at the last row
+    abbrev last-key : ℕ
+    last-key = rowAt table last .entry .key
+
+    last-in : last ∈ numbers t
+    last-in =
+        often-in last (numbers t)
+        (omega (arith, rw (lt-ltb last (h .count) (omega (arith, one-row))) at (H .holds .each-row-once last)))
+
+    keys-listed : listing t ≡ map (keyOf-row (rowAt table) (h .count)) (numbers t)
+    keys-listed = spelled-keys (rowAt table) (h .count) t (shown-spelled H)
+
+    key-in : last-key ∈ listing t
+    key-in = rw keys-listed (in-map (keyOf-row (rowAt table) (h .count)) last-in)
+
+    second-finds : only-if (eqb last-key) (keyAt (second .end)) ≡ such last-key
+    unfolding secondWay has
+    second-finds =
+        has-answer (h .width) last-key 0 0 t (on-root-path (h .width) last-key .0 (H .holds .below last-key (rw (lists H) at key-in))) (proper H)
+        ∙ ap (λ b. if b then such last-key else no-such) (lookup-whether last-key (listing t) .1 key-in)
+
+    second-whole : chained (second .passed) (second .end) ≡ t
+    unfolding secondWay
+    second-whole = linked-again (following last-key) (h .width) t
+
+    second-spelled : Spelled (rowAt table) (h .count) (chained (second .passed) (second .end))
+    second-spelled = rw second-whole (shown-spelled H)
+
+    second-told : (rowAt table (numberAt (second .end)) .entry .key ≡ last-key) × (numberAt (second .end) ∈ numbers (second .end))
+    second-told =
+        end-is last-key (second .end) (end-spelled (rowAt table) (h .count) (second .passed) (second .end) second-spelled) second-finds
+
+    second-often : (j : ℕ) → often j (numbers t) ≡ often j (numbers (chained (second .passed) none)) + often j (numbers (second .end))
+    second-often j = ap (λ u. often j (numbers u)) (sym second-whole) ∙ chained-often (second .passed) (second .end) j
+
+    second-last : numberAt (second .end) ≡ last
+    second-last =
+        let rising : Increasing (listing t) = rw (lists H) (H .holds .increasing) in
+        one-key (keyOf-row (rowAt table) (h .count)) (numbers t) (rw keys-listed at rising)
+        (often-in (numberAt (second .end)) (numbers t) (omega (arith, second-often (numberAt (second .end)), in-often (second-told .1))))
+        last-in (second-told .0)
+
+    not-astray : astray h table second ≡ false
+    unfolding astray
+    not-astray = rw (second-finds, eq-eqb (numberAt (second .end)) last second-last)
+
+    second-unbroken : broken second ≡ false
+    unfolding secondWay
+    second-unbroken = unbroken (following last-key) (h .width) t (undamaged H)
+
+    module _ (earlier : hole < last) where
+      some-left : last ≡ 0 → ⊥
+      some-left e = omega arith
+
+      -- the row above the last one, and the side where it names it
+      module _ (p : Step) (is : last-such anything (second .passed) ≡ such p) where
+        abbrev parent : ℕ
+        parent = p .at
+
+        told : (parent ∈ numbers (chained (second .passed) none)) × (parent < h .count) × (link (rowAt table parent) (p .turn) ≡ numberAt (second .end))
+        told = hook-names (rw is at (hook-is (rowAt table) (h .count) (second .passed) (second .end) second-spelled))
+
+        names-last : link (rowAt table parent) (p .turn) ≡ last
+        names-last = told .2 ∙ second-last
+
+        parent-in : parent ∈ numbers t
+        parent-in = often-in parent (numbers t) (omega (arith, second-often parent, in-often (told .0)))
+
+        parent-other : parent ≡ last → ⊥
+        parent-other e =
+            let inside : parent ∈ numbers (second .end) = Memᴰ·cast (e ∙ sym second-last) (second-told .1) in
+            omega (arith, second-often parent, rows-once H parent, in-often (told .0), in-often inside)
+
+        parent-kept : parent ≡ hole → ⊥
+        parent-kept e = some-left (sym names-last ∙ ap (λ j. link (rowAt table j) (p .turn)) e ∙ hole-told .no-links (p .turn))
+
+        -- unlinking the hole leaves that link
+        other-hook : (q : Step) → last-such anything before ≡ such q → (3 * q .at + 2 < length raised-table) × (q .at ≡ parent → q .turn ≡ p .turn → ⊥)
+        other-hook q is-q =
+            let whole : Spelled (rowAt table) (h .count) (chained before (stretch .end)) = rw before-whole (shown-spelled H) in
+            let names = hook-names (rw is-q at (hook-is (rowAt table) (h .count) before (stretch .end) whole)) in (
+              omega (arith, fit, raised-long, names .1),
+              λ same-row same-side.
+                  let at-hole : link (rowAt table parent) (p .turn) ≡ hole =
+                  ap (λ j. link (rowAt table j) (p .turn)) (sym same-row) ∙ ap (link (rowAt table (q .at))) (sym same-side) ∙ names .2 in
+                  omega (arith, names-last),
+            )
+
+        still-names : link (rowAt unlinked parent) (p .turn) ≡ last
+        still-names =
+            hooking-link (last-such anything before) 0 raised-table parent (p .turn) other-hook
+            ∙ taking-link (taken-by later) table parent (p .turn) ∙ names-last
+
+        abbrev filled : List ℕ
+        filled = withRow hole (rowAt unlinked last) unlinked
+
+        abbrev relinked : List ℕ
+        relinked = withLink parent (p .turn) hole filled
+
+        final-is : final true ≡ withRow last cleared relinked
+        unfolding moving
+        final-is = rw is
+
+        long : length filled ≡ length table
+        long = row-length hole (rowAt unlinked last) unlinked ∙ unlinked-long
+
+        -- what the move leaves
+        hole-later : (numberAt new-tree ≡ 0) × (exists new-tree ≡ true) → hole ≡ 0 → ⊥
+        hole-later first e = hole-out (Memᴰ·cast (e ∙ sym (first .0)) (root-in new-tree unlinked-spelled (first .1)))
+
+        moved-rows : (numberAt new-tree ≡ 0) × (exists new-tree ≡ true) → LastMoved (rowAt unlinked) (rowAt (withRow last cleared relinked)) hole last parent (p .turn) new-tree
+        moved-rows first =
+            record {
+              hole-earlier = earlier;
+              hole-no-root = hole-later first;
+              parent-there = still-there parent parent-in parent-kept;
+              parent-other = parent-other;
+              parent-names = still-names;
+              moved =
+                  row-elsewhere last relinked hole (λ e. omega arith) cleared
+                  ∙ link-elsewhere parent filled hole (λ e. parent-kept (sym e)) (p .turn) hole
+                  ∙ row-written hole unlinked (omega (arith, fit, unlinked-long, hole-told .in-use)) (rowAt unlinked last);
+              link-set =
+                  row-elsewhere last relinked parent parent-other cleared
+                  ∙ link-written parent filled (omega (arith, fit, long, told .1)) (p .turn) hole
+                  ∙ ap (linking (p .turn) hole) (row-elsewhere hole unlinked parent parent-kept (rowAt unlinked last));
+              others-stay =
+                  λ j inside no-last no-parent.
+                  row-elsewhere last relinked j no-last cleared ∙ link-elsewhere parent filled j no-parent (p .turn) hole
+                  ∙ row-elsewhere hole unlinked j (λ e. hole-out (Memᴰ·cast (sym e) inside)) (rowAt unlinked last);
+            }
+
+        moved-shows : (small : leb (2 ^ h .width) k ≡ false) (there : lookup k S ≡ true) → Shows small there (final true)
+        moved-shows small there =
+            let first : (numberAt new-tree ≡ 0) × (exists new-tree ≡ true) = (new-first small there, new-there small there some-left) in
+            let after : List ℕ = withRow last cleared relinked in
+            let before-move : unfolded (rowAt unlinked) (suc last) (h .width) 0 0 0 ≡ new-tree =
+            ap₂ (λ n i. unfolded (rowAt unlinked) n (h .width) 0 0 i) (sym one-row) (sym (first .0))
+            ∙ spelled-shows (rowAt unlinked) (h .count) (h .width) 0 0 new-tree (new-proper small there) unlinked-spelled (first .1) in
+            let whole : intact (unfolded (rowAt unlinked) (suc last) (h .width) 0 0 0) ≡ true =
+            ap intact before-move ∙ proper-intact (h .width) 0 0 new-tree (new-proper small there) in
+            let moves : unfolded (rowAt after) last (h .width) 0 0 (moved-into hole last 0) ≡ renamed (moved-into hole last) (unfolded (rowAt unlinked) (suc last) (h .width) 0 0 0) =
+            last-row-moved (rowAt unlinked) (rowAt after) hole last parent (p .turn) (h .width) 0 0 0 whole (rw before-move (moved-rows first)) in
+            let so : shown less after ≡ renamed (moved-into hole last) new-tree =
+            shown-root less after some-left ∙ ap (unfolded (rowAt after) last (h .width) 0 0) (sym (root-stays hole last some-left))
+            ∙ moves ∙ ap (renamed (moved-into hole last)) before-move in
+            rw final-is (
+              ap intact so ∙ renamed-intact (moved-into hole last) new-tree ∙ proper-intact (h .width) 0 0 new-tree (new-proper small there),
+              ap listing so ∙ renamed-listing (moved-into hole last) new-tree ∙ new-lists small there,
+            )
+
+      -- there is such a row, for the last row is not the root
+      has-parent : (q : Perhaps Step) → last-such anything (second .passed) ≡ q → (p : Step) × (last-such anything (second .passed) ≡ such p)
+      unfolding chained
+      has-parent no-such is =
+          absurd (some-left (sym second-last ∙ alone (rw is at (hook-is (rowAt table) (h .count) (second .passed) (second .end) second-spelled))))
+        where
+          alone : Hook-told (rowAt table) (h .count) (second .passed) (second .end) no-such → numberAt (second .end) ≡ 0
+          alone (no-hook empty) = sym (ap (λ ss. numberAt (chained ss (second .end))) empty) ∙ ap numberAt second-whole ∙ root-first H
+      has-parent (such p) is = (p, is)
+
+    shows-after : (small : leb (2 ^ h .width) k ≡ false) (there : lookup k S ≡ true) → Shows small there (final (not (eqb hole last)))
+    shows-after small there = by-cases (eqb last 0) refl (eqb hole last) refl
+      where
+        by-cases : (a : Bool) → eqb last 0 ≡ a → (b : Bool) → eqb hole last ≡ b → Shows small there (final (not b))
+        by-cases true empty b same = none-left small there (eqb-true last 0 empty) (final (not b))
+        by-cases false some true same = stays small there (eqb-false last 0 some) (eqb-true hole last same)
+        by-cases false some false differ =
+            let earlier : hole < last = omega (arith, one-row, hole-told .in-use, eqb-false hole last differ) in
+            let p = has-parent earlier (last-such anything (second .passed)) refl in
+            moved-shows earlier (p .0) (p .1) small there
+
+    same-long : (moves : Bool) → length (final moves) ≡ length table
+    unfolding moving
+    same-long moves = row-length last cleared (if moves then moving hole last second unlinked else unlinked) ∙ by-cases moves
+      where
+        by-cases : (b : Bool) → length (if b then moving hole last second unlinked else unlinked) ≡ length table
+        by-cases true =
+            hooking-length (above-end second) hole (withRow hole (rowAt unlinked last) unlinked)
+            ∙ row-length hole (rowAt unlinked last) unlinked ∙ unlinked-long
+        by-cases false = unlinked-long
+
+    del-held : (small : leb (2 ^ h .width) k ≡ false) (there : lookup k S ≡ true) → Holding less (final (not (eqb hole last))) (delete k S)
+    unfolding wrong-header
+    del-held small there =
+        let moves : Bool = not (eqb hole last) in
+        record {
+          right-header =
+              rw (
+                right-width H,
+                same-capacity (final moves) table (same-long moves),
+                le-ltb (capacity table) last (omega (arith, has-room H, one-row)),
+              );
+          holds = held-by-listing less (final moves) (shows-after small there .0) (shows-after small there .1) (new-number small there);
+        }
+
+  present-is : e .present ≡ ends-at k w
+  unfolding erasing
+  present-is = by-cases (ends-at k w)
+    where
+      by-cases : (b : Bool) → erasing-by w stretch (joined w stretch) b .present ≡ b
+      by-cases true = refl
+      by-cases false = refl
+
+  present-so : leb (2 ^ h .width) k ≡ false → e .present ≡ lookup k S
+  present-so small = erasing-present (h .width) k 0 0 t (narrow h k small) (proper H) ∙ ap (lookup k) (lists H)
+
+  abbrev moves : Bool
+  moves = not (eqb (e .hole) last)
+
+  abbrev outcome : Bool → Bool → Bool → Outcome
+  outcome wide there bad =
+      if wide then record { reply = refused h WordTooWide; table = table }
+      else if not there then record { reply = answered h NoSuchWord (rows (e .rows-read)); table = table }
+      else if bad then record { reply = refused h Damage; table = table }
+      else
+      record {
+        reply = record { header = less; answer = Done; rows = rows (e .rows-read); moved = if moves then rows second else 0 };
+        table = shrunk last e second moves table;
+      }
+
+  abbrev bad : Bool
+  bad = moves && (broken second || astray h table second)
+
+  outcome-so : delOutcome h table k ≡ outcome (leb (2 ^ h .width) k) (e .present) bad
+  unfolding delOutcome too-wide
+  outcome-so = rw (H .right-header, erasing-unbroken (h .width) t (undamaged H) k)
+
+  never-bad : ends-at k w ≡ true → bad ≡ false
+  never-bad present = rw (second-unbroken present, not-astray present) (by-cases moves)
+    where
+      by-cases : (b : Bool) → (b && false) ≡ false
+      by-cases true = refl
+      by-cases false = refl
+
+  after-so : (present : ends-at k w ≡ true) → shrunk last e second moves table ≡ final present (not (eqb hole last))
+  after-so present = table-after present moves ∙ ap (λ i. final present (not (eqb i last))) (hole-same present)
+
+  pub keeps-del : (buffer : List ℕ) → KeepsDictionary (del k) h table buffer S
+  unfolding after expected kept-after changed numberOf keyOf
+  keeps-del buffer = rw outcome-so (by-width (leb (2 ^ h .width) k) refl (e .present) (λ small. present-so small) bad (λ small there. never-bad (sym present-is ∙ present-so small ∙ there)))
+    where
+      said : Bool → Bool → Said
+      said wide there = if wide then only 3 else if there then only 0 else only 8
+
+      kept : Said → Kept
+      kept answer = if eqb (answer .number) 0 then record { width = h .width; set = delete k S; buffer = buffer } else keptBy h S buffer
+
+      left-by : Outcome → After
+      left-by o = record { reply = o .reply; table = o .table; buffer = buffer }
+
+      by-lookup : (small : leb (2 ^ h .width) k ≡ false) (there : Bool) → lookup k S ≡ there → (wrong : Bool) → (there ≡ true → wrong ≡ false)
+          → Keeps (said false there) (kept (said false there)) table (left-by (outcome false there wrong))
+      by-lookup small true is wrong so =
+          let present : ends-at k w ≡ true = sym present-is ∙ present-so small ∙ is in
+          rw (so refl) (record {
+            answer = refl;
+            width = refl;
+            held = rw (after-so present) (del-held present small is);
+            written = refl;
+            same-length = ap length (after-so present) ∙ same-long present (not (eqb hole last));
+          })
+      by-lookup small false is wrong so = nothing-changed h table buffer S H (answered h NoSuchWord (rows (e .rows-read))) (only 8) refl refl
+
+      by-width : (wide : Bool) → leb (2 ^ h .width) k ≡ wide → (there : Bool) → (leb (2 ^ h .width) k ≡ false → there ≡ lookup k S)
+          → (wrong : Bool) → (leb (2 ^ h .width) k ≡ false → lookup k S ≡ true → wrong ≡ false)
+          → Keeps (said wide (lookup k S)) (kept (said wide (lookup k S))) table (left-by (outcome wide there wrong))
+      by-width true small there so wrong never = nothing-changed h table buffer S H (refused h WordTooWide) (only 3) refl refl
+      by-width false small there so wrong never = rw (so small) (by-lookup small (lookup k S) refl wrong (never small))

@@ -1,0 +1,71 @@
+-- What the ordered dictionary says to each call on a set S of words of width W: the answer's number and key, and the set that it leaves.
+-- Document 01: "The meaning of the operations is the ordered dictionary of source document 004; `new` (an empty set), `gap`, `audit`, `list`
+-- and the answers 7 and 8 are set here, over the same set." On a sound table 2 and 4 are never given, so they are not named here.
+use Prim.Native.Nat.{ℕ, _^_}
+use mathlib.Core.List.{List, [], _++_}
+use lib.Dec.{ltb, leb, eqb}
+use lib.ListN.{length, drop}
+use Rattle.ordered.specs.Such.{if_then_else_, Perhaps, no-such, such}
+use Rattle.ordered.specs.Dictionary.{insert, delete, lookup, min, max, successor, predecessor}
+use Rattle.ordered.specs.Reading.{nearest}
+use Rattle.pretree.specs.Reply.{wrong-width}
+use Rattle.demands.specs.Call.{Call, new, add, del, has, next, prev, gap, first, last, audit, list}
+
+pub record Said : Type 0 where
+  pub number : ℕ
+  pub key : Perhaps ℕ
+
+-- a number with no key
+abbrev pub only : ℕ → Said
+only n = record { number = n; key = no-such }
+
+-- "the word for `next`, `prev`, `first`, `last`; the distance for `gap`", or 8: "no such word", "empty set"
+abbrev pub word : Perhaps ℕ → Said
+word (such x) = record { number = 0; key = such x }
+word no-such = only 8
+
+-- 3: "k is 2^W or more"
+abbrev pub of-width : ℕ → ℕ → Said → Said
+of-width W k said = if leb (2 ^ W) k then only 3 else said
+
+-- what the dictionary keeps from call to call: the set and the width of its words, and beside them the lent buffer
+pub record Kept : Type 0 where
+  pub width : ℕ
+  pub set : List ℕ
+  pub buffer : List ℕ
+
+-- the answer, where the table has room for `capacity` words
+unfoldable pub expected : Call → ℕ → Kept → Said
+expected (new w) capacity s = if wrong-width w then only 1 else only 0
+expected (add k) capacity s =
+    of-width (s .width) k (if lookup k (s .set) then only 7 else if eqb (length (s .set)) capacity then only 5 else only 0)
+expected (del k) capacity s = of-width (s .width) k (if lookup k (s .set) then only 0 else only 8)
+expected (has k) capacity s = of-width (s .width) k (if lookup k (s .set) then only 0 else only 8)
+expected (next k) capacity s = of-width (s .width) k (word (successor k (s .set)))
+expected (prev k) capacity s = of-width (s .width) k (word (predecessor k (s .set)))
+expected (gap k) capacity s =
+    of-width (s .width) k
+    (word (if lookup k (s .set) then such 0 else nearest k (predecessor k (s .set)) (successor k (s .set))))
+expected first capacity s = word (min (s .set))
+expected last capacity s = word (max (s .set))
+expected audit capacity s = only 0
+expected list capacity s = if ltb (length (s .buffer)) (length (s .set)) then only 6 else only 0
+
+-- what a call does where it is done: "insert(x), which adds x to S"; "delete(x), which removes x from S"; "`new` (an empty set)";
+-- "`list` writes [the listing] to a lent buffer [..] and leaves the rest of the buffer"
+unfoldable pub changed : Call → Kept → Kept
+changed (new w) s = record { width = w; set = []; buffer = s .buffer }
+changed (add k) s = record { width = s .width; set = insert k (s .set); buffer = s .buffer }
+changed (del k) s = record { width = s .width; set = delete k (s .set); buffer = s .buffer }
+changed (has k) s = s
+changed (next k) s = s
+changed (prev k) s = s
+changed (gap k) s = s
+changed first s = s
+changed last s = s
+changed audit s = s
+changed list s = record { width = s .width; set = s .set; buffer = s .set ++ drop (length (s .set)) (s .buffer) }
+
+-- "1 to 6 and 9 are refusals: [..] header, table and buffer untouched. 7 and 8 [..] change nothing."
+unfoldable pub kept-after : Call → ℕ → Kept → Kept
+kept-after c capacity s = if eqb (expected c capacity s .number) 0 then changed c s else s
