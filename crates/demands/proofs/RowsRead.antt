@@ -40,78 +40,6 @@ use Rattle.demands.proofs.Tested.{shown-proper}
 use Rattle.demands.proofs.SoundIs.{tree-intact, sound-is, one-tree-each}
 use Rattle.demands.proofs.SecondWay.{second-way-ends}
 
--- what holds of both is so of the one that a test picks
-either-way : {A : Type 0} (P : A → Type 0) (b : Bool) {x y : A} → P x → P y → P (if b then x else y)
-either-way P true p q = p
-either-way P false p q = q
-
-module _ {n m : ℕ} where
-  none-few : (h : Header) (a : Answer) → AtMost n m (refused h a)
-  none-few h a = record { few-read = omega arith; few-moved = omega arith }
-
-  answer-few : (h : Header) (a : Answer) {x : ℕ} → x ≤ n → AtMost n m (answered h a x)
-  answer-few h a few = record { few-read = few; few-moved = omega arith }
-
-read-few : {n : ℕ} (h : Header) (table : List ℕ) (wide : Bool) (word : ℕ → Answer) (r : Reading) → rowsOf (r .ways) ≤ n
-    → AtMost n 0 (read-reply h table wide word r)
-read-few {n} h table wide word r few =
-    either-way (AtMost n 0) (wrong-header h table) (none-few h WrongHeader)
-    (either-way (AtMost n 0) wide (none-few h WordTooWide)
-    (either-way (AtMost n 0) (brokenIn (r .ways)) (none-few h Damage) (answer-few h (saying word (r .answer)) few)))
-
-pub rows-bounded : RowsBounded
-unfolding after mostRows mostMoved newReply hasReply nextReply prevReply gapReply firstReply lastReply addOutcome delOutcome auditReply listReply secondWay
-rows-bounded (new w) h table buffer =
-    either-way (AtMost 0 0) (wrong-width w) (none-few h WrongWidth) (none-few (fresh w) Done)
-rows-bounded (add k) h table buffer =
-    let a : Adding = adding (h .width) k (shown h table) in
-    let more : Header = record { width = h .width; count = suc (h .count) } in
-    let P : Outcome → Type 0 = λ o. AtMost (h .width + 1) 0 (o .reply) in
-    let few : rows (a .rows-read) ≤ h .width + 1 = adding-rows (h .width) k (shown h table) in
-    either-way P (wrong-header h table) (none-few h WrongHeader)
-    (either-way P (too-wide h k) (none-few h WordTooWide)
-    (either-way P (broken (a .rows-read)) (none-few h Damage)
-    (either-way P (a .present) (answer-few h AlreadyThere few)
-    (either-way P (eqb (h .count) (capacity table)) (none-few h Full) (answer-few more Done few)))))
-rows-bounded (del k) h table buffer =
-    let e : Erasing = erasing (h .width) k (shown h table) in
-    let second : Way = secondWay h table in
-    let goes : Bool = not (eqb (e .hole) (pred (h .count))) in
-    let P : Outcome → Type 0 = λ o. AtMost (h .width + 1) (h .width + 1) (o .reply) in
-    let few : rows (e .rows-read) ≤ h .width + 1 = erasing-rows (h .width) k (shown h table) in
-    let key : ℕ = rowAt table (pred (h .count)) .entry .key in
-    either-way P (wrong-header h table) (none-few h WrongHeader)
-    (either-way P (too-wide h k) (none-few h WordTooWide)
-    (either-way P (broken (e .rows-read)) (none-few h Damage)
-    (either-way P (not (e .present)) (answer-few h NoSuchWord few)
-    (either-way P (goes && (broken second || astray h table second)) (none-few h Damage)
-    (record {
-      few-read = few;
-      few-moved = either-way (λ x. x ≤ h .width + 1) goes (way-rows (following key) (h .width) (shown h table)) (omega arith);
-    })))))
-rows-bounded (has k) h table buffer =
-    read-few h table (too-wide h k) done (has-over (h .width) k (shown h table)) (has-rows (h .width) k (shown h table))
-rows-bounded (next k) h table buffer =
-    read-few h table (too-wide h k) Word (next-over (h .width) k (shown h table)) (next-rows (h .width) k (shown h table))
-rows-bounded (prev k) h table buffer =
-    read-few h table (too-wide h k) Word (prev-over (h .width) k (shown h table)) (prev-rows (h .width) k (shown h table))
-rows-bounded (gap k) h table buffer =
-    read-few h table (too-wide h k) Distance (gap-over (h .width) k (shown h table)) (gap-rows (h .width) k (shown h table))
-rows-bounded first h table buffer =
-    read-few h table false Word (first-over (h .width) (shown h table)) (omega (arith, first-rows (h .width) (shown h table)))
-rows-bounded last h table buffer =
-    read-few h table false Word (last-over (h .width) (shown h table)) (last-rows (h .width) (shown h table))
-rows-bounded audit h table buffer =
-    let P : Reply → Type 0 = AtMost (h .count) 0 in
-    either-way P (wrong-header h table) (none-few h WrongHeader)
-    (either-way P (isSound h table) (answer-few h Done (omega arith)) (none-few h Damage))
-rows-bounded list h table buffer =
-    let P : Reply → Type 0 = AtMost (h .count) 0 in
-    either-way P (wrong-header h table) (none-few h WrongHeader)
-    (either-way P (isSound h table)
-    (either-way P (ltb (length buffer) (h .count)) (none-few h ShortBuffer) (answer-few h Done (omega arith)))
-    (none-few h Damage))
-
 -- the way of a word reads as many rows of a tree as of the same tree without its row numbers
 way-unnumbered : (m k : ℕ) (t : Tree) → rows (way (following k) m (unnumbered t)) ≡ rows (way (following k) m t)
 unfolding has-over rowsOf
@@ -290,3 +218,75 @@ pub rows-alike : RowsAlike
 unfolding capacity
 rows-alike c h h′ table table′ buffer S right right′ s s′ width length =
     rows-exact c h table buffer S right s .rows-read ∙ (rw (width, length)) ∙ sym (rows-exact c h′ table′ buffer S right′ s′ .rows-read)
+
+-- what holds of both is so of the one that a test picks
+either-way : {A : Type 0} (P : A → Type 0) (b : Bool) {x y : A} → P x → P y → P (if b then x else y)
+either-way P true p q = p
+either-way P false p q = q
+
+module _ {n m : ℕ} where
+  none-few : (h : Header) (a : Answer) → AtMost n m (refused h a)
+  none-few h a = record { few-read = omega arith; few-moved = omega arith }
+
+  answer-few : (h : Header) (a : Answer) {x : ℕ} → x ≤ n → AtMost n m (answered h a x)
+  answer-few h a few = record { few-read = few; few-moved = omega arith }
+
+read-few : {n : ℕ} (h : Header) (table : List ℕ) (wide : Bool) (word : ℕ → Answer) (r : Reading) → rowsOf (r .ways) ≤ n
+    → AtMost n 0 (read-reply h table wide word r)
+read-few {n} h table wide word r few =
+    either-way (AtMost n 0) (wrong-header h table) (none-few h WrongHeader)
+    (either-way (AtMost n 0) wide (none-few h WordTooWide)
+    (either-way (AtMost n 0) (brokenIn (r .ways)) (none-few h Damage) (answer-few h (saying word (r .answer)) few)))
+
+pub rows-bounded : RowsBounded
+unfolding after mostRows mostMoved newReply hasReply nextReply prevReply gapReply firstReply lastReply addOutcome delOutcome auditReply listReply secondWay
+rows-bounded (new w) h table buffer =
+    either-way (AtMost 0 0) (wrong-width w) (none-few h WrongWidth) (none-few (fresh w) Done)
+rows-bounded (add k) h table buffer =
+    let a : Adding = adding (h .width) k (shown h table) in
+    let more : Header = record { width = h .width; count = suc (h .count) } in
+    let P : Outcome → Type 0 = λ o. AtMost (h .width + 1) 0 (o .reply) in
+    let few : rows (a .rows-read) ≤ h .width + 1 = adding-rows (h .width) k (shown h table) in
+    either-way P (wrong-header h table) (none-few h WrongHeader)
+    (either-way P (too-wide h k) (none-few h WordTooWide)
+    (either-way P (broken (a .rows-read)) (none-few h Damage)
+    (either-way P (a .present) (answer-few h AlreadyThere few)
+    (either-way P (eqb (h .count) (capacity table)) (none-few h Full) (answer-few more Done few)))))
+rows-bounded (del k) h table buffer =
+    let e : Erasing = erasing (h .width) k (shown h table) in
+    let second : Way = secondWay h table in
+    let goes : Bool = not (eqb (e .hole) (pred (h .count))) in
+    let P : Outcome → Type 0 = λ o. AtMost (h .width + 1) (h .width + 1) (o .reply) in
+    let few : rows (e .rows-read) ≤ h .width + 1 = erasing-rows (h .width) k (shown h table) in
+    let key : ℕ = rowAt table (pred (h .count)) .entry .key in
+    either-way P (wrong-header h table) (none-few h WrongHeader)
+    (either-way P (too-wide h k) (none-few h WordTooWide)
+    (either-way P (broken (e .rows-read)) (none-few h Damage)
+    (either-way P (not (e .present)) (answer-few h NoSuchWord few)
+    (either-way P (goes && (broken second || astray h table second)) (none-few h Damage)
+    (record {
+      few-read = few;
+      few-moved = either-way (λ x. x ≤ h .width + 1) goes (way-rows (following key) (h .width) (shown h table)) (omega arith);
+    })))))
+rows-bounded (has k) h table buffer =
+    read-few h table (too-wide h k) done (has-over (h .width) k (shown h table)) (has-rows (h .width) k (shown h table))
+rows-bounded (next k) h table buffer =
+    read-few h table (too-wide h k) Word (next-over (h .width) k (shown h table)) (next-rows (h .width) k (shown h table))
+rows-bounded (prev k) h table buffer =
+    read-few h table (too-wide h k) Word (prev-over (h .width) k (shown h table)) (prev-rows (h .width) k (shown h table))
+rows-bounded (gap k) h table buffer =
+    read-few h table (too-wide h k) Distance (gap-over (h .width) k (shown h table)) (gap-rows (h .width) k (shown h table))
+rows-bounded first h table buffer =
+    read-few h table false Word (first-over (h .width) (shown h table)) (omega (arith, first-rows (h .width) (shown h table)))
+rows-bounded last h table buffer =
+    read-few h table false Word (last-over (h .width) (shown h table)) (last-rows (h .width) (shown h table))
+rows-bounded audit h table buffer =
+    let P : Reply → Type 0 = AtMost (h .count) 0 in
+    either-way P (wrong-header h table) (none-few h WrongHeader)
+    (either-way P (isSound h table) (answer-few h Done (omega arith)) (none-few h Damage))
+rows-bounded list h table buffer =
+    let P : Reply → Type 0 = AtMost (h .count) 0 in
+    either-way P (wrong-header h table) (none-few h WrongHeader)
+    (either-way P (isSound h table)
+    (either-way P (ltb (length buffer) (h .count)) (none-few h ShortBuffer) (answer-few h Done (omega arith)))
+    (none-few h Damage))
