@@ -16,7 +16,7 @@ use Rattle.ordered.specs.Reading.{Reading, rowsOf, brokenIn, has as has-over, n
 use Rattle.ordered.specs.Change.{Adding, adding, Erasing, erasing}
 use Rattle.ordered.proofs.Rows.{way-rows, has-rows, next-rows, prev-rows, first-rows, last-rows, gap-rows, adding-rows, erasing-rows}
 use Rattle.ordered.proofs.Bits.{on-root-path}
-use Rattle.ordered.proofs.Unnumbered.{has-unnumbered, next-unnumbered, prev-unnumbered, first-unnumbered, last-unnumbered, gap-unnumbered, adding-unnumbered, erasing-unnumbered}
+use Rattle.ordered.proofs.Unnumbered.{Alike, has-unnumbered, next-unnumbered, prev-unnumbered, first-unnumbered, last-unnumbered, gap-unnumbered, adding-unnumbered, erasing-unnumbered}
 use Rattle.ordered.proofs.Unbroken.{has-unbroken, next-unbroken, prev-unbroken, first-unbroken, last-unbroken, gap-unbroken, adding-unbroken, erasing-unbroken}
 use Rattle.ordered.proofs.Ways.{unbroken}
 use Rattle.ordered.proofs.Answers.{adding-present, erasing-present}
@@ -40,78 +40,6 @@ use Rattle.demands.proofs.Tested.{shown-proper}
 use Rattle.demands.proofs.SoundIs.{tree-intact, sound-is, one-tree-each}
 use Rattle.demands.proofs.SecondWay.{second-way-ends}
 
--- what holds of both is so of the one that a test picks
-either-way : {A : Type 0} (P : A → Type 0) (b : Bool) {x y : A} → P x → P y → P (if b then x else y)
-either-way P true p q = p
-either-way P false p q = q
-
-module _ {n m : ℕ} where
-  none-few : (h : Header) (a : Answer) → AtMost n m (refused h a)
-  none-few h a = record { few-read = omega arith; few-moved = omega arith }
-
-  answer-few : (h : Header) (a : Answer) {x : ℕ} → x ≤ n → AtMost n m (answered h a x)
-  answer-few h a few = record { few-read = few; few-moved = omega arith }
-
-read-few : {n : ℕ} (h : Header) (table : List ℕ) (wide : Bool) (word : ℕ → Answer) (r : Reading) → rowsOf (r .ways) ≤ n
-    → AtMost n 0 (read-reply h table wide word r)
-read-few {n} h table wide word r few =
-    either-way (AtMost n 0) (wrong-header h table) (none-few h WrongHeader)
-    (either-way (AtMost n 0) wide (none-few h WordTooWide)
-    (either-way (AtMost n 0) (brokenIn (r .ways)) (none-few h Damage) (answer-few h (saying word (r .answer)) few)))
-
-pub rows-bounded : RowsBounded
-unfolding after mostRows mostMoved newReply hasReply nextReply prevReply gapReply firstReply lastReply addOutcome delOutcome auditReply listReply secondWay
-rows-bounded (new w) h table buffer =
-    either-way (AtMost 0 0) (wrong-width w) (none-few h WrongWidth) (none-few (fresh w) Done)
-rows-bounded (add k) h table buffer =
-    let a : Adding = adding (h .width) k (shown h table) in
-    let more : Header = record { width = h .width; count = suc (h .count) } in
-    let P : Outcome → Type 0 = λ o. AtMost (h .width + 1) 0 (o .reply) in
-    let few : rows (a .rows-read) ≤ h .width + 1 = adding-rows (h .width) k (shown h table) in
-    either-way P (wrong-header h table) (none-few h WrongHeader)
-    (either-way P (too-wide h k) (none-few h WordTooWide)
-    (either-way P (broken (a .rows-read)) (none-few h Damage)
-    (either-way P (a .present) (answer-few h AlreadyThere few)
-    (either-way P (eqb (h .count) (capacity table)) (none-few h Full) (answer-few more Done few)))))
-rows-bounded (del k) h table buffer =
-    let e : Erasing = erasing (h .width) k (shown h table) in
-    let second : Way = secondWay h table in
-    let goes : Bool = not (eqb (e .hole) (pred (h .count))) in
-    let P : Outcome → Type 0 = λ o. AtMost (h .width + 1) (h .width + 1) (o .reply) in
-    let few : rows (e .rows-read) ≤ h .width + 1 = erasing-rows (h .width) k (shown h table) in
-    let key : ℕ = rowAt table (pred (h .count)) .entry .key in
-    either-way P (wrong-header h table) (none-few h WrongHeader)
-    (either-way P (too-wide h k) (none-few h WordTooWide)
-    (either-way P (broken (e .rows-read)) (none-few h Damage)
-    (either-way P (not (e .present)) (answer-few h NoSuchWord few)
-    (either-way P (goes && (broken second || astray h table second)) (none-few h Damage)
-    (record {
-      few-read = few;
-      few-moved = either-way (λ x. x ≤ h .width + 1) goes (way-rows (following key) (h .width) (shown h table)) (omega arith);
-    })))))
-rows-bounded (has k) h table buffer =
-    read-few h table (too-wide h k) done (has-over (h .width) k (shown h table)) (has-rows (h .width) k (shown h table))
-rows-bounded (next k) h table buffer =
-    read-few h table (too-wide h k) Word (next-over (h .width) k (shown h table)) (next-rows (h .width) k (shown h table))
-rows-bounded (prev k) h table buffer =
-    read-few h table (too-wide h k) Word (prev-over (h .width) k (shown h table)) (prev-rows (h .width) k (shown h table))
-rows-bounded (gap k) h table buffer =
-    read-few h table (too-wide h k) Distance (gap-over (h .width) k (shown h table)) (gap-rows (h .width) k (shown h table))
-rows-bounded first h table buffer =
-    read-few h table false Word (first-over (h .width) (shown h table)) (omega (arith, first-rows (h .width) (shown h table)))
-rows-bounded last h table buffer =
-    read-few h table false Word (last-over (h .width) (shown h table)) (last-rows (h .width) (shown h table))
-rows-bounded audit h table buffer =
-    let P : Reply → Type 0 = AtMost (h .count) 0 in
-    either-way P (wrong-header h table) (none-few h WrongHeader)
-    (either-way P (isSound h table) (answer-few h Done (omega arith)) (none-few h Damage))
-rows-bounded list h table buffer =
-    let P : Reply → Type 0 = AtMost (h .count) 0 in
-    either-way P (wrong-header h table) (none-few h WrongHeader)
-    (either-way P (isSound h table)
-    (either-way P (ltb (length buffer) (h .count)) (none-few h ShortBuffer) (answer-few h Done (omega arith)))
-    (none-few h Damage))
-
 -- the way of a word reads as many rows of a tree as of the same tree without its row numbers
 way-unnumbered : (m k : ℕ) (t : Tree) → rows (way (following k) m (unnumbered t)) ≡ rows (way (following k) m t)
 unfolding has-over rowsOf
@@ -130,12 +58,19 @@ module _ (h : Header) (table S : List ℕ) (right : wrong-header h table ≡ fal
   on-set : (f : Tree → ℕ) → ((t : Tree) → f (unnumbered t) ≡ f t) → f (shown h table) ≡ f (treeOf (h .width) S)
   on-set f blind = sym (blind (shown h table)) ∙ ap f (s .tree)
 
-  read-reports : {n : ℕ} (wide : Bool) (word : ℕ → Answer) (r : Reading) → ((x : ℕ) → isRefusal (numberOf (word x)) ≡ false)
-      → brokenIn (r .ways) ≡ false → rowsOf (r .ways) ≡ n → Reports wide n 0 (read-reply h table wide word r)
+  -- a call that reads by f, which meets no damage in a tree without any and does not see row numbers
+  read-reports : (f : Tree → Reading) (wide : Bool) (word : ℕ → Answer) → ((x : ℕ) → isRefusal (numberOf (word x)) ≡ false)
+      → (intact (shown h table) ≡ true → brokenIn (f (shown h table) .ways) ≡ false) → ((t : Tree) → Alike (f (unnumbered t)) (f t))
+      → Reports wide (rowsOf (f (treeOf (h .width) S) .ways)) 0 (read-reply h table wide word (f (shown h table)))
   unfolding numberOf
-  read-reports true word r says sound same = rw right (record { number = refl; rows-read = refl; moving-count = refl })
-  read-reports false word r says sound same =
-      rw (right, sound) (record { number = said (r .answer); rows-read = same; moving-count = refl })
+  read-reports f true word says whole blind = rw right (record { number = refl; rows-read = refl; moving-count = refl })
+  read-reports f false word says whole blind =
+      rw (right, whole undamaged)
+      (record {
+        number = said (f (shown h table) .answer);
+        rows-read = on-set (λ t. rowsOf (f t .ways)) (λ t. blind t .same-rows);
+        moving-count = refl;
+      })
     where
       said : (q : Perhaps ℕ) → isRefusal (numberOf (saying word q)) ≡ false
       said (such x) = says x
@@ -259,35 +194,23 @@ rows-exact (new w) h table buffer S right s = new-reports h w
 rows-exact (add k) h table buffer S right s = add-reports h table S right s k
 rows-exact (del k) h table buffer S right s = del-reports h table S right s k
 rows-exact (has k) h table buffer S right s =
-    let W : ℕ = h .width in
-    read-reports h table S right s (leb (2 ^ W) k) done (has-over W k (shown h table)) (λ x. refl)
-    (has-unbroken W (shown h table) (undamaged h table S right s) k)
-    (on-set h table S right s (λ t. rowsOf (has-over W k t .ways)) (λ t. has-unnumbered W k t .same-rows))
+    read-reports h table S right s (has-over (h .width) k) (leb (2 ^ h .width) k) done (λ x. refl)
+    (λ whole. has-unbroken (h .width) (shown h table) whole k) (has-unnumbered (h .width) k)
 rows-exact (next k) h table buffer S right s =
-    let W : ℕ = h .width in
-    read-reports h table S right s (leb (2 ^ W) k) Word (next-over W k (shown h table)) (λ x. refl)
-    (next-unbroken W (shown h table) (undamaged h table S right s) k)
-    (on-set h table S right s (λ t. rowsOf (next-over W k t .ways)) (λ t. next-unnumbered W k t .same-rows))
+    read-reports h table S right s (next-over (h .width) k) (leb (2 ^ h .width) k) Word (λ x. refl)
+    (λ whole. next-unbroken (h .width) (shown h table) whole k) (next-unnumbered (h .width) k)
 rows-exact (prev k) h table buffer S right s =
-    let W : ℕ = h .width in
-    read-reports h table S right s (leb (2 ^ W) k) Word (prev-over W k (shown h table)) (λ x. refl)
-    (prev-unbroken W (shown h table) (undamaged h table S right s) k)
-    (on-set h table S right s (λ t. rowsOf (prev-over W k t .ways)) (λ t. prev-unnumbered W k t .same-rows))
+    read-reports h table S right s (prev-over (h .width) k) (leb (2 ^ h .width) k) Word (λ x. refl)
+    (λ whole. prev-unbroken (h .width) (shown h table) whole k) (prev-unnumbered (h .width) k)
 rows-exact (gap k) h table buffer S right s =
-    let W : ℕ = h .width in
-    read-reports h table S right s (leb (2 ^ W) k) Distance (gap-over W k (shown h table)) (λ x. refl)
-    (gap-unbroken W (shown h table) (undamaged h table S right s) k)
-    (on-set h table S right s (λ t. rowsOf (gap-over W k t .ways)) (λ t. gap-unnumbered W k t .same-rows))
+    read-reports h table S right s (gap-over (h .width) k) (leb (2 ^ h .width) k) Distance (λ x. refl)
+    (λ whole. gap-unbroken (h .width) (shown h table) whole k) (gap-unnumbered (h .width) k)
 rows-exact first h table buffer S right s =
-    let W : ℕ = h .width in
-    read-reports h table S right s false Word (first-over W (shown h table)) (λ x. refl)
-    (first-unbroken W (shown h table) (undamaged h table S right s))
-    (on-set h table S right s (λ t. rowsOf (first-over W t .ways)) (λ t. first-unnumbered W t .same-rows))
+    read-reports h table S right s (first-over (h .width)) false Word (λ x. refl)
+    (λ whole. first-unbroken (h .width) (shown h table) whole) (first-unnumbered (h .width))
 rows-exact last h table buffer S right s =
-    let W : ℕ = h .width in
-    read-reports h table S right s false Word (last-over W (shown h table)) (λ x. refl)
-    (last-unbroken W (shown h table) (undamaged h table S right s))
-    (on-set h table S right s (λ t. rowsOf (last-over W t .ways)) (λ t. last-unnumbered W t .same-rows))
+    read-reports h table S right s (last-over (h .width)) false Word (λ x. refl)
+    (λ whole. last-unbroken (h .width) (shown h table) whole) (last-unnumbered (h .width))
 rows-exact audit h table buffer S right s = audit-reports h table S right s
 rows-exact list h table buffer S right s = list-reports h table S right s buffer
 
@@ -295,3 +218,75 @@ pub rows-alike : RowsAlike
 unfolding capacity
 rows-alike c h h′ table table′ buffer S right right′ s s′ width length =
     rows-exact c h table buffer S right s .rows-read ∙ (rw (width, length)) ∙ sym (rows-exact c h′ table′ buffer S right′ s′ .rows-read)
+
+-- what holds of both is so of the one that a test picks
+either-way : {A : Type 0} (P : A → Type 0) (b : Bool) {x y : A} → P x → P y → P (if b then x else y)
+either-way P true p q = p
+either-way P false p q = q
+
+module _ {n m : ℕ} where
+  none-few : (h : Header) (a : Answer) → AtMost n m (refused h a)
+  none-few h a = record { few-read = omega arith; few-moved = omega arith }
+
+  answer-few : (h : Header) (a : Answer) {x : ℕ} → x ≤ n → AtMost n m (answered h a x)
+  answer-few h a few = record { few-read = few; few-moved = omega arith }
+
+read-few : {n : ℕ} (h : Header) (table : List ℕ) (wide : Bool) (word : ℕ → Answer) (r : Reading) → rowsOf (r .ways) ≤ n
+    → AtMost n 0 (read-reply h table wide word r)
+read-few {n} h table wide word r few =
+    either-way (AtMost n 0) (wrong-header h table) (none-few h WrongHeader)
+    (either-way (AtMost n 0) wide (none-few h WordTooWide)
+    (either-way (AtMost n 0) (brokenIn (r .ways)) (none-few h Damage) (answer-few h (saying word (r .answer)) few)))
+
+pub rows-bounded : RowsBounded
+unfolding after mostRows mostMoved newReply hasReply nextReply prevReply gapReply firstReply lastReply addOutcome delOutcome auditReply listReply secondWay
+rows-bounded (new w) h table buffer =
+    either-way (AtMost 0 0) (wrong-width w) (none-few h WrongWidth) (none-few (fresh w) Done)
+rows-bounded (add k) h table buffer =
+    let a : Adding = adding (h .width) k (shown h table) in
+    let more : Header = record { width = h .width; count = suc (h .count) } in
+    let P : Outcome → Type 0 = λ o. AtMost (h .width + 1) 0 (o .reply) in
+    let few : rows (a .rows-read) ≤ h .width + 1 = adding-rows (h .width) k (shown h table) in
+    either-way P (wrong-header h table) (none-few h WrongHeader)
+    (either-way P (too-wide h k) (none-few h WordTooWide)
+    (either-way P (broken (a .rows-read)) (none-few h Damage)
+    (either-way P (a .present) (answer-few h AlreadyThere few)
+    (either-way P (eqb (h .count) (capacity table)) (none-few h Full) (answer-few more Done few)))))
+rows-bounded (del k) h table buffer =
+    let e : Erasing = erasing (h .width) k (shown h table) in
+    let second : Way = secondWay h table in
+    let goes : Bool = not (eqb (e .hole) (pred (h .count))) in
+    let P : Outcome → Type 0 = λ o. AtMost (h .width + 1) (h .width + 1) (o .reply) in
+    let few : rows (e .rows-read) ≤ h .width + 1 = erasing-rows (h .width) k (shown h table) in
+    let key : ℕ = rowAt table (pred (h .count)) .entry .key in
+    either-way P (wrong-header h table) (none-few h WrongHeader)
+    (either-way P (too-wide h k) (none-few h WordTooWide)
+    (either-way P (broken (e .rows-read)) (none-few h Damage)
+    (either-way P (not (e .present)) (answer-few h NoSuchWord few)
+    (either-way P (goes && (broken second || astray h table second)) (none-few h Damage)
+    (record {
+      few-read = few;
+      few-moved = either-way (λ x. x ≤ h .width + 1) goes (way-rows (following key) (h .width) (shown h table)) (omega arith);
+    })))))
+rows-bounded (has k) h table buffer =
+    read-few h table (too-wide h k) done (has-over (h .width) k (shown h table)) (has-rows (h .width) k (shown h table))
+rows-bounded (next k) h table buffer =
+    read-few h table (too-wide h k) Word (next-over (h .width) k (shown h table)) (next-rows (h .width) k (shown h table))
+rows-bounded (prev k) h table buffer =
+    read-few h table (too-wide h k) Word (prev-over (h .width) k (shown h table)) (prev-rows (h .width) k (shown h table))
+rows-bounded (gap k) h table buffer =
+    read-few h table (too-wide h k) Distance (gap-over (h .width) k (shown h table)) (gap-rows (h .width) k (shown h table))
+rows-bounded first h table buffer =
+    read-few h table false Word (first-over (h .width) (shown h table)) (omega (arith, first-rows (h .width) (shown h table)))
+rows-bounded last h table buffer =
+    read-few h table false Word (last-over (h .width) (shown h table)) (last-rows (h .width) (shown h table))
+rows-bounded audit h table buffer =
+    let P : Reply → Type 0 = AtMost (h .count) 0 in
+    either-way P (wrong-header h table) (none-few h WrongHeader)
+    (either-way P (isSound h table) (answer-few h Done (omega arith)) (none-few h Damage))
+rows-bounded list h table buffer =
+    let P : Reply → Type 0 = AtMost (h .count) 0 in
+    either-way P (wrong-header h table) (none-few h WrongHeader)
+    (either-way P (isSound h table)
+    (either-way P (ltb (length buffer) (h .count)) (none-few h ShortBuffer) (answer-few h Done (omega arith)))
+    (none-few h Damage))
