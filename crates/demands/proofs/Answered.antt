@@ -71,6 +71,12 @@ module _ {h : Header} {table S : List ℕ} (H : Holding h table S) where
 pub narrow : (h : Header) (k : ℕ) → leb (2 ^ h .width) k ≡ false → k / 2 ^ h .width ≡ 0
 narrow h k e = on-root-path (h .width) k .0 (leb-false (2 ^ h .width) k e)
 
+-- an empty set is held by every table
+pub empty-held : (W : ℕ) (table : List ℕ) → wrong-width W ≡ false → Holding (fresh W) table []
+unfolding wrong-header shown listing intact
+empty-held W table right =
+    record { right-header = rw (right, le-ltb (capacity table) 0 (omega arith)); holds = held-by-listing (fresh W) table refl refl refl }
+
 module _ (h : Header) (table buffer S : List ℕ) (H : Holding h table S) where
   abbrev kept : Kept
   kept = keptBy h S buffer
@@ -160,11 +166,6 @@ module _ (h : Header) (table buffer S : List ℕ) (H : Holding h table S) where
   unfolding capacity
   clean-length = rw (length-append, length-replicate, length-drop) (omega arith)
 
-  clean-held : (w : ℕ) → wrong-width w ≡ false → Holding (fresh w) clean []
-  unfolding wrong-header shown listing intact
-  clean-held w right =
-      record { right-header = rw (right, le-ltb (capacity clean) 0 (omega arith)); holds = held-by-listing (fresh w) clean refl refl refl }
-
   -- "it clears every row and hands back its W with a count of 0"
   pub keeps-new : (w : ℕ) → KeepsDictionary (new w) h table buffer S
   unfolding after expected kept-after changed newReply newTable numberOf keyOf
@@ -174,4 +175,4 @@ module _ (h : Header) (table buffer S : List ℕ) (H : Holding h table S) where
           → Keeps (if b then only 1 else only 0) (if eqb ((if b then only 1 else only 0) .number) 0 then record { width = w; set = []; buffer = buffer } else kept) table
           (record { reply = if b then refused h WrongWidth else answered (fresh w) Done 0; table = if b then table else clean; buffer = buffer })
       either true e = nothing-changed (refused h WrongWidth) (only 1) refl refl
-      either false e = record { answer = refl; width = refl; held = clean-held w e; written = refl; same-length = clean-length }
+      either false e = record { answer = refl; width = refl; held = empty-held w clean e; written = refl; same-length = clean-length }
