@@ -1,12 +1,12 @@
 -- Demand 2 of the calls that write no row: `has`, `next`, `prev`, `gap`, `first`, `last`, `audit`, `list`; and of `new`.
-use Prim.Native.Nat.{ℕ, zero, suc, _+_, _*_, _/_, _^_, _<_, _≤_}
-use mathlib.Core.Path.{_≡_, refl, sym, ap, _∙_}
+use Prim.Native.Nat.{ℕ, _+_, _*_, _/_, _^_, _<_}
+use mathlib.Core.Path.{_≡_, refl, ap, _∙_}
 use mathlib.Core.Bool.{Bool, true, false}
-use mathlib.Core.List.{List, [], _∷_, _++_}
+use mathlib.Core.List.{List, [], _++_}
 use native.Mathlib.Omega.{arith}
 use lib.Dec.{ltb, leb, eqb}
 use lib.ListN.{length, getD, drop, replicate, length-replicate, getD-replicate, List·getD-append, length-append, length-drop}
-use borrow.Author.Tests.{ltb-false, leb-false, le-ltb}
+use borrow.Author.Tests.{leb-false, le-ltb}
 use Rattle.ordered.specs.Such.{if_then_else_, Perhaps, no-such, such}
 use Rattle.ordered.specs.Dictionary.{lookup, min, max, successor, predecessor}
 use Rattle.ordered.specs.Tree.{Tree, listing, intact}
@@ -23,13 +23,12 @@ use Rattle.pretree.specs.declared.Reply.{Reply}
 use Rattle.pretree.specs.Answer.{numberOf, keyOf}
 use Rattle.pretree.specs.Table.{capacity, rowAt}
 use Rattle.pretree.specs.Unfold.{shown}
-use Rattle.pretree.specs.Sound.{isSound}
 use Rattle.pretree.specs.Reply.{fresh, wrong-width, wrong-header, too-wide, refused, answered}
 use Rattle.pretree.specs.Find.{saying, done, read-reply, hasReply, nextReply, prevReply, gapReply, firstReply, lastReply}
 use Rattle.pretree.specs.Whole.{newReply, newTable, auditReply, listReply, listBuffer}
 use Rattle.pretree.proofs.Writing.{same-capacity}
-use Rattle.demands.specs.Call.{Call, After, after, new, add, del, has, next, prev, gap, first, last, audit, list}
-use Rattle.demands.specs.Expected.{Said, Kept, only, word, of-width, expected, changed, kept-after}
+use Rattle.demands.specs.Call.{After, after, new, has, next, prev, gap, first, last, audit, list}
+use Rattle.demands.specs.Expected.{Said, Kept, only, word, expected, changed, kept-after}
 use Rattle.demands.specs.Demand2.{Holding, saidIn, Keeps, keptBy, KeepsDictionary, LaterZeros}
 use Rattle.demands.proofs.Tested.{shown-proper}
 use Rattle.demands.proofs.SoundIs.{tree-intact, tree-listing, test-of-set, held-by-listing}

@@ -10,7 +10,7 @@ use borrow.Author.Tests.{le-ltb}
 use Rattle.ordered.specs.Such.{if_then_else_}
 use Rattle.pretree.specs.declared.Header.{Header}
 use Rattle.pretree.specs.Table.{capacity}
-use Rattle.pretree.specs.Reply.{fresh, wrong-width, wrong-header}
+use Rattle.pretree.specs.Reply.{fresh, wrong-header}
 use Rattle.pretree.proofs.Writing.{same-capacity}
 use Rattle.demands.specs.Call.{Call, After, after, new, add, del, has, next, prev, gap, first, last, audit, list}
 use Rattle.demands.specs.Expected.{Kept, expected, changed, kept-after}

@@ -1,31 +1,31 @@
 -- Demand 2 of `del`: its writes do to the table what the erase does to the tree, and the move of the last row changes row numbers alone.
 -- Document 01: "The order is: keys up, unlink, move, set the link."
-use Prim.Native.Nat.{ℕ, zero, suc, pred, _+_, _*_, _/_, _^_, _<_, _≤_}
+use Prim.Native.Nat.{ℕ, zero, suc, pred, _+_, _*_, _^_, _<_, _≤_}
 use mathlib.Core.Path.{_≡_, refl, sym, ap, ap₂, _∙_}
 use mathlib.Core.Bool.{Bool, true, false, not, _&&_, _||_, false≢true}
 use mathlib.Core.List.{List, [], _∷_, _++_, map, map-append}
 use mathlib.Core.List.{List·Memᴰ·head, List·Memᴰ·tail, Memᴰ·cast}
 use native.Mathlib.Omega.{arith}
-use lib.Dec.{ltb, leb, eqb}
+use lib.Dec.{leb, eqb}
 use lib.ListN.{length}
 use lib.Seq.{getD-set-other}
-use borrow.Author.Tests.{ltb-false, leb-false, eqb-true, eqb-false, lt-ltb, le-ltb, eq-eqb, ne-eqb}
+use borrow.Author.Tests.{leb-false, eqb-true, eqb-false, lt-ltb, le-ltb, eq-eqb, ne-eqb}
 use Rattle.ordered.specs.Such.{if_then_else_, Perhaps, no-such, such, only-if, last-such, anything}
-use Rattle.ordered.specs.Word.{Side, left, right, other, bitOf}
-use Rattle.ordered.specs.Dictionary.{Above, none-above, one-above, Increasing, none-increasing, one-increasing, delete, lookup}
+use Rattle.ordered.specs.Word.{Side, left, right, bitOf}
+use Rattle.ordered.specs.Dictionary.{Increasing, none-increasing, one-increasing, delete, lookup}
 use Rattle.ordered.specs.Said.{_∈_}
-use Rattle.ordered.specs.Tree.{Tree, none, row, damaged, Entry, part, exists, listing, intact, unnumbered}
+use Rattle.ordered.specs.Tree.{Tree, none, row, damaged, Entry, part, exists, listing, intact}
 use Rattle.ordered.specs.Proper.{Fitting, Proper}
 use Rattle.ordered.specs.Way.{Step, Way, Rule, stop, to, way, rows, broken, joined, following, down}
 use Rattle.ordered.specs.Reading.{keyAt, has}
 use Rattle.ordered.specs.Change.{Take, Erasing, erasing, erasing-by, isThere, ends-at, above-end, raised, numberAt, entryAt}
 use Rattle.ordered.specs.Grown.{linking as turned, linked as chained, lifted, popped-tree, shrunk as shrunk-tree}
 use Rattle.ordered.proofs.Bits.{on-root-path}
-use Rattle.ordered.proofs.Parts.{All, all-map, last-such-one, above-all, delete-absent}
+use Rattle.ordered.proofs.Parts.{all-map, last-such-one, above-all, delete-absent}
 use Rattle.ordered.proofs.OneTree.{root-fits, proper-intact}
 use Rattle.ordered.proofs.Dictionary.{lookup-whether}
 use Rattle.ordered.proofs.Lists.{above-less}
-use Rattle.ordered.proofs.Ways.{at-bottom, at-none, at-damage, at-stop, Stops, At-end, Onward, along, linked-again, unbroken}
+use Rattle.ordered.proofs.Ways.{at-bottom, at-none, at-damage, at-stop, At-end, Onward, along, linked-again, unbroken}
 use Rattle.ordered.proofs.Moves.{taken-by, lifted-takes, linked-append}
 use Rattle.ordered.proofs.Grown.{shrunk-proper, shrunk-listing}
 use Rattle.ordered.proofs.Answers.{has-answer, erasing-present}
@@ -36,7 +36,7 @@ use Rattle.pretree.specs.declared.Row.{Row}
 use Rattle.pretree.specs.Answer.{numberOf, keyOf}
 use Rattle.pretree.specs.Table.{capacity, rowAt, link, withKey, withLink, withRow, cleared}
 use Rattle.pretree.specs.Unfold.{unfolded, shown}
-use Rattle.pretree.specs.Reply.{wrong-width, wrong-header, too-wide, refused, answered}
+use Rattle.pretree.specs.Reply.{wrong-header, too-wide, refused, answered}
 use Rattle.pretree.specs.Add.{Outcome, taking, hooking}
 use Rattle.pretree.specs.Del.{secondWay, astray, moving, shrunk, delOutcome}
 use Rattle.pretree.proofs.Writing.{same-capacity}
@@ -48,7 +48,7 @@ use Rattle.demands.proofs.Numbers.{intact-unnumbered, listing-unnumbere
 use Rattle.demands.proofs.Links.{linking, moved-into, LastMoved, last-row-moved}
 use Rattle.demands.proofs.SoundIs.{held-by-listing}
 use Rattle.demands.proofs.Answered.{undamaged, lists, proper, narrow, nothing-changed}
-use Rattle.demands.proofs.Spelled.{row-of, Part, Told, Spelled, no-row, a-row, spelled-shows, spelled-frame}
+use Rattle.demands.proofs.Spelled.{Spelled, no-row, a-row, spelled-shows, spelled-frame}
 use Rattle.demands.proofs.Writes.{row-written, row-elsewhere, link-written, link-elsewhere, taking-length, hooking-length, row-length}
 use Rattle.demands.proofs.Rewritten.{Once, in-often, often-in, Same-places, no-place, one-place, same-places, lifted-places, joined-places, same-numbers, none-part, entries-taken, end-hooked, unchanged-taken, apart-from, hooking-elsewhere, way-elsewhere, taking-both, chained-often, end-spelled, Hook-told, no-hook, hook-told, hook-is}
 use Rattle.demands.proofs.Added.{shown-spelled, root-first, rows-once, right-width, has-room, rows-fit, shown-so, not-in-use}

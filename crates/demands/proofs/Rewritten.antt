@@ -1,8 +1,8 @@
 -- What `add` and `del` write along a way: the rows of the way take other entries, and the last of them another link. Where the rows spelled
 -- the tree before, they spell the way linked again with those entries and with another part at its end.
 -- Document 01: "that row takes k and its old key is pushed down [..], taking each next row's place in turn"; "each row taking the key below".
-use Prim.Native.Nat.{ℕ, zero, suc, _+_, _*_, _≤_, _<_}
-use mathlib.Core.Path.{_≡_, refl, sym, ap, ap₂, _∙_}
+use Prim.Native.Nat.{ℕ, _+_, _*_, _≤_, _<_}
+use mathlib.Core.Path.{_≡_, refl, sym, ap, _∙_}
 use mathlib.Core.Bool.{Bool, true, false, false≢true}
 use mathlib.Core.List.{List, [], _∷_, _++_}
 use mathlib.Core.List.{List·Memᴰ·head, List·Memᴰ·tail, Memᴰ·append-left, Memᴰ·append-right, Memᴰ·cast}
@@ -14,9 +14,9 @@ use borrow.Author.Tests.{eqb-true, eq-eqb}
 use Rattle.ordered.specs.Such.{if_then_else_, Perhaps, no-such, such, first-of, last-such, anything}
 use Rattle.ordered.specs.Word.{Side, left, right, other}
 use Rattle.ordered.specs.Said.{_∈_}
-use Rattle.ordered.specs.Tree.{Tree, none, row, damaged, Entry, part, exists}
+use Rattle.ordered.specs.Tree.{Tree, none, Entry, part, exists}
 use Rattle.ordered.specs.Way.{Step}
-use Rattle.ordered.specs.Change.{Take, numberAt}
+use Rattle.ordered.specs.Change.{numberAt}
 use Rattle.ordered.specs.Grown.{linking as turned, linked as chained, taking as with-entry, shifted, entry-below, lifted}
 use Rattle.ordered.proofs.Parts.{All, none-all, one-all, If-such, last-such-one, first-of-such}
 use Rattle.ordered.proofs.Moves.{taken-by}
@@ -26,7 +26,7 @@ use Rattle.pretree.specs.Add.{taking, hooking}
 use Rattle.pretree.proofs.Writing.{key-length}
 use Rattle.demands.specs.Numbers.{numbers, often}
 use Rattle.demands.proofs.Links.{often-append, linking}
-use Rattle.demands.proofs.Spelled.{row-of, Part, Told, Spelled, no-row, a-row, spelled-frame}
+use Rattle.demands.proofs.Spelled.{row-of, Part, Told, Spelled, a-row, spelled-frame}
 use Rattle.demands.proofs.Writes.{keyed, key-written, key-elsewhere, link-written, link-elsewhere}
 
 -- no row stands in a tree twice
