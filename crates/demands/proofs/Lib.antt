@@ -17,3 +17,4 @@ pub mod Writes
 pub mod Rewritten
 pub mod Added
 pub mod Removed
+pub mod Demand2

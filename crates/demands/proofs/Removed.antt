@@ -1,31 +1,31 @@
 -- Demand 2 of `del`: its writes do to the table what the erase does to the tree, and the move of the last row changes row numbers alone.
 -- Document 01: "The order is: keys up, unlink, move, set the link."
-use Prim.Native.Nat.{ℕ, zero, suc, pred, _+_, _*_, _/_, _^_, _<_, _≤_}
+use Prim.Native.Nat.{ℕ, zero, suc, pred, _+_, _*_, _^_, _<_, _≤_}
 use mathlib.Core.Path.{_≡_, refl, sym, ap, ap₂, _∙_}
 use mathlib.Core.Bool.{Bool, true, false, not, _&&_, _||_, false≢true}
 use mathlib.Core.List.{List, [], _∷_, _++_, map, map-append}
 use mathlib.Core.List.{List·Memᴰ·head, List·Memᴰ·tail, Memᴰ·cast}
 use native.Mathlib.Omega.{arith}
-use lib.Dec.{ltb, leb, eqb}
+use lib.Dec.{leb, eqb}
 use lib.ListN.{length}
 use lib.Seq.{getD-set-other}
-use borrow.Author.Tests.{ltb-false, leb-false, eqb-true, eqb-false, lt-ltb, le-ltb, eq-eqb, ne-eqb}
+use borrow.Author.Tests.{leb-false, eqb-true, eqb-false, lt-ltb, le-ltb, eq-eqb, ne-eqb}
 use Rattle.ordered.specs.Such.{if_then_else_, Perhaps, no-such, such, only-if, last-such, anything}
-use Rattle.ordered.specs.Word.{Side, left, right, other, bitOf}
-use Rattle.ordered.specs.Dictionary.{Above, none-above, one-above, Increasing, none-increasing, one-increasing, delete, lookup}
+use Rattle.ordered.specs.Word.{Side, left, right, bitOf}
+use Rattle.ordered.specs.Dictionary.{Increasing, none-increasing, one-increasing, delete, lookup}
 use Rattle.ordered.specs.Said.{_∈_}
-use Rattle.ordered.specs.Tree.{Tree, none, row, damaged, Entry, part, exists, listing, intact, unnumbered}
+use Rattle.ordered.specs.Tree.{Tree, none, row, damaged, Entry, part, exists, listing, intact}
 use Rattle.ordered.specs.Proper.{Fitting, Proper}
 use Rattle.ordered.specs.Way.{Step, Way, Rule, stop, to, way, rows, broken, joined, following, down}
 use Rattle.ordered.specs.Reading.{keyAt, has}
 use Rattle.ordered.specs.Change.{Take, Erasing, erasing, erasing-by, isThere, ends-at, above-end, raised, numberAt, entryAt}
 use Rattle.ordered.specs.Grown.{linking as turned, linked as chained, lifted, popped-tree, shrunk as shrunk-tree}
 use Rattle.ordered.proofs.Bits.{on-root-path}
-use Rattle.ordered.proofs.Parts.{All, all-map, above-all, delete-absent}
+use Rattle.ordered.proofs.Parts.{all-map, last-such-one, above-all, delete-absent}
 use Rattle.ordered.proofs.OneTree.{root-fits, proper-intact}
 use Rattle.ordered.proofs.Dictionary.{lookup-whether}
 use Rattle.ordered.proofs.Lists.{above-less}
-use Rattle.ordered.proofs.Ways.{at-bottom, at-none, at-damage, at-stop, Stops, At-end, Onward, along, linked-again, unbroken}
+use Rattle.ordered.proofs.Ways.{at-bottom, at-none, at-damage, at-stop, At-end, Onward, along, linked-again, unbroken}
 use Rattle.ordered.proofs.Moves.{taken-by, lifted-takes, linked-append}
 use Rattle.ordered.proofs.Grown.{shrunk-proper, shrunk-listing}
 use Rattle.ordered.proofs.Answers.{has-answer, erasing-present}
@@ -36,22 +36,22 @@ use Rattle.pretree.specs.declared.Row.{Row}
 use Rattle.pretree.specs.Answer.{numberOf, keyOf}
 use Rattle.pretree.specs.Table.{capacity, rowAt, link, withKey, withLink, withRow, cleared}
 use Rattle.pretree.specs.Unfold.{unfolded, shown}
-use Rattle.pretree.specs.Reply.{wrong-width, wrong-header, too-wide, refused, answered}
+use Rattle.pretree.specs.Reply.{wrong-header, too-wide, refused, answered}
 use Rattle.pretree.specs.Add.{Outcome, taking, hooking}
 use Rattle.pretree.specs.Del.{secondWay, astray, moving, shrunk, delOutcome}
 use Rattle.pretree.proofs.Writing.{same-capacity}
 use Rattle.demands.specs.Call.{After, after, del}
 use Rattle.demands.specs.Numbers.{numbers, often, renamed}
 use Rattle.demands.specs.Expected.{Said, Kept, only, expected, changed, kept-after}
-use Rattle.demands.specs.Demand2.{Holding, Keeps, keptBy, KeepsDictionary}
+use Rattle.demands.specs.Demand2.{Holding, Keeps, keptBy, KeepsDictionary, LaterZeros}
 use Rattle.demands.proofs.Numbers.{intact-unnumbered, listing-unnumbered, unnumbered-renamed}
 use Rattle.demands.proofs.Links.{linking, moved-into, LastMoved, last-row-moved}
 use Rattle.demands.proofs.SoundIs.{held-by-listing}
 use Rattle.demands.proofs.Answered.{undamaged, lists, proper, narrow, nothing-changed}
-use Rattle.demands.proofs.Spelled.{row-of, Part, Told, Spelled, no-row, a-row, spelled-shows, spelled-frame}
+use Rattle.demands.proofs.Spelled.{Spelled, no-row, a-row, spelled-shows, spelled-frame}
 use Rattle.demands.proofs.Writes.{row-written, row-elsewhere, link-written, link-elsewhere, taking-length, hooking-length, row-length}
-use Rattle.demands.proofs.Rewritten.{Once, in-often, often-in, Same-places, no-place, one-place, same-places, lifted-places, joined-places, same-numbers, none-part, entries-taken, end-hooked, unchanged-taken, taking-both, chained-often, end-spelled, Hook-told, no-hook, hook-told, hook-is}
-use Rattle.demands.proofs.Added.{shown-spelled, root-first, rows-once, right-width, has-room, rows-fit, shown-so}
+use Rattle.demands.proofs.Rewritten.{Once, in-often, often-in, Same-places, no-place, one-place, same-places, lifted-places, joined-places, same-numbers, none-part, entries-taken, end-hooked, unchanged-taken, apart-from, hooking-elsewhere, way-elsewhere, taking-both, chained-often, end-spelled, Hook-told, no-hook, hook-told, hook-is}
+use Rattle.demands.proofs.Added.{shown-spelled, root-first, rows-once, right-width, has-room, rows-fit, shown-so, not-in-use}
 
 -- a set with one word less
 delete-length : (x : ℕ) {s : List ℕ} → Increasing s → lookup x s ≡ true → suc (length (delete x s)) ≡ length s
@@ -603,6 +603,39 @@ module _ (h : Header) (table S : List ℕ) (H : Holding h table S) (k : ℕ) whe
           holds = held-by-listing less (final moves) (shows-after small there .0) (shows-after small there .1) (new-number small there);
         }
 
+    -- a row past the new count: the last row is cleared, the later ones stay as they were
+    beyond-del : (moves : Bool) → LaterZeros h table → LaterZeros less (final moves)
+    unfolding moving secondWay
+    beyond-del moves zeros j past room = by-cases (eqb j last) refl
+      where
+        inner : List ℕ
+        inner = if moves then moving hole last second unlinked else unlinked
+
+        inner-long : (b : Bool) → length (if b then moving hole last second unlinked else unlinked) ≡ length table
+        inner-long true =
+            hooking-length (above-end second) hole (withRow hole (rowAt unlinked last) unlinked)
+            ∙ row-length hole (rowAt unlinked last) unlinked ∙ unlinked-long
+        inner-long false = unlinked-long
+
+        later-row : h .count ≤ j → rowAt unlinked j ≡ rowAt table j
+        later-row beyond = way-elsewhere places (stretch .end) 0 table j (rw before-whole (not-in-use h table S H k j beyond))
+
+        inner-row : h .count ≤ j → (b : Bool) → rowAt (if b then moving hole last second unlinked else unlinked) j ≡ rowAt table j
+        inner-row beyond true =
+            hooking-elsewhere (above-end second) hole (withRow hole (rowAt unlinked last) unlinked) j
+            (last-such-one anything (apart-from (same-places (second .passed)) (second .end) j (rw second-whole (not-in-use h table S H k j beyond)) .0))
+            ∙ row-elsewhere hole unlinked j (λ e. omega (arith, hole-told .in-use)) (rowAt unlinked last) ∙ later-row beyond
+        inner-row beyond false = later-row beyond
+
+        by-cases : (b : Bool) → eqb j last ≡ b → rowAt (withRow last cleared inner) j ≡ cleared
+        by-cases true same =
+            ap (rowAt (withRow last cleared inner)) (eqb-true j last same)
+            ∙ row-written last inner (omega (arith, fit, inner-long moves, one-row)) cleared
+        by-cases false differ =
+            let beyond : h .count ≤ j = omega (arith, one-row, eqb-false j last differ) in
+            row-elsewhere last inner j (eqb-false j last differ) cleared ∙ inner-row beyond moves
+            ∙ zeros j beyond (omega (arith, same-capacity (final moves) table (same-long moves)))
+
   present-is : e .present ≡ ends-at k w
   unfolding erasing
   present-is = by-cases (ends-at k w)
@@ -676,3 +709,14 @@ module _ (h : Header) (table S : List ℕ) (H : Holding h table S) (k : ℕ) whe
           → Keeps (said wide (lookup k S)) (kept (said wide (lookup k S))) table (left-by (outcome wide there wrong))
       by-width true small there so wrong never = nothing-changed h table buffer S H (refused h WordTooWide) (only 3) refl refl
       by-width false small there so wrong never = rw (so small) (by-lookup small (lookup k S) refl wrong (never small))
+
+  pub zeros-del : LaterZeros h table → LaterZeros (delOutcome h table k .reply .header) (delOutcome h table k .table)
+  zeros-del zeros = rw outcome-so (by-cases (leb (2 ^ h .width) k) (e .present) refl bad)
+    where
+      by-cases : (wide there : Bool) → e .present ≡ there → (wrong : Bool) → LaterZeros (outcome wide there wrong .reply .header) (outcome wide there wrong .table)
+      by-cases true there is wrong = zeros
+      by-cases false false is wrong = zeros
+      by-cases false true is true = zeros
+      by-cases false true is false =
+          let present : ends-at k w ≡ true = sym present-is ∙ is in
+          rw (after-so present) (beyond-del present (not (eqb hole last)) zeros)

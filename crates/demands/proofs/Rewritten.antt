@@ -1,8 +1,8 @@
 -- What `add` and `del` write along a way: the rows of the way take other entries, and the last of them another link. Where the rows spelled
 -- the tree before, they spell the way linked again with those entries and with another part at its end.
 -- Document 01: "that row takes k and its old key is pushed down [..], taking each next row's place in turn"; "each row taking the key below".
-use Prim.Native.Nat.{ℕ, zero, suc, _+_, _*_, _≤_, _<_}
-use mathlib.Core.Path.{_≡_, refl, sym, ap, ap₂, _∙_}
+use Prim.Native.Nat.{ℕ, _+_, _*_, _≤_, _<_}
+use mathlib.Core.Path.{_≡_, refl, sym, ap, _∙_}
 use mathlib.Core.Bool.{Bool, true, false, false≢true}
 use mathlib.Core.List.{List, [], _∷_, _++_}
 use mathlib.Core.List.{List·Memᴰ·head, List·Memᴰ·tail, Memᴰ·append-left, Memᴰ·append-right, Memᴰ·cast}
@@ -14,9 +14,9 @@ use borrow.Author.Tests.{eqb-true, eq-eqb}
 use Rattle.ordered.specs.Such.{if_then_else_, Perhaps, no-such, such, first-of, last-such, anything}
 use Rattle.ordered.specs.Word.{Side, left, right, other}
 use Rattle.ordered.specs.Said.{_∈_}
-use Rattle.ordered.specs.Tree.{Tree, none, row, damaged, Entry, part, exists}
+use Rattle.ordered.specs.Tree.{Tree, none, Entry, part, exists}
 use Rattle.ordered.specs.Way.{Step}
-use Rattle.ordered.specs.Change.{Take, numberAt}
+use Rattle.ordered.specs.Change.{numberAt}
 use Rattle.ordered.specs.Grown.{linking as turned, linked as chained, taking as with-entry, shifted, entry-below, lifted}
 use Rattle.ordered.proofs.Parts.{All, none-all, one-all, If-such, last-such-one, first-of-such}
 use Rattle.ordered.proofs.Moves.{taken-by}
@@ -26,7 +26,7 @@ use Rattle.pretree.specs.Add.{taking, hooking}
 use Rattle.pretree.proofs.Writing.{key-length}
 use Rattle.demands.specs.Numbers.{numbers, often}
 use Rattle.demands.proofs.Links.{often-append, linking}
-use Rattle.demands.proofs.Spelled.{row-of, Part, Told, Spelled, no-row, a-row, spelled-frame}
+use Rattle.demands.proofs.Spelled.{row-of, Part, Told, Spelled, a-row, spelled-frame}
 use Rattle.demands.proofs.Writes.{keyed, key-written, key-elsewhere, link-written, link-elsewhere}
 
 -- no row stands in a tree twice
@@ -171,7 +171,7 @@ part-so : {t t′ : Tree} → (numberAt t′ ≡ numberAt t) × (exists t′ ≡
 part-so same p = record { not-root = λ there e. p .not-root (sym (same .1) ∙ there) (sym (same .0) ∙ e) }
 
 -- a row that is not among those of a way
-apart-from : {ss us : List Step} → Same-places ss us → (u : Tree) (j : ℕ) → (j ∈ numbers (chained ss u) → ⊥) → All (λ s. s .at ≡ j → ⊥) us × All (λ s. s .at ≡ j → ⊥) ss
+pub apart-from : {ss us : List Step} → Same-places ss us → (u : Tree) (j : ℕ) → (j ∈ numbers (chained ss u) → ⊥) → All (λ s. s .at ≡ j → ⊥) us × All (λ s. s .at ≡ j → ⊥) ss
 unfolding chained
 apart-from no-place u j out = (none-all, none-all)
 apart-from (one-place {s} {ss} {us} e p) u j out =
@@ -179,7 +179,7 @@ apart-from (one-place {s} {ss} {us} e p) u j out =
     let rest = apart-from p u j (λ there. out (on-in (s .at) (s .entry) (s .turn) (s .left-part) (s .right-part) (chained ss u) there)) in
     (one-all here (rest .0), one-all here (rest .1))
 
-taking-elsewhere : (us : List Step) (table : List ℕ) (j : ℕ) → All (λ s. s .at ≡ j → ⊥) us → rowAt (taking (taken-by us) table) j ≡ rowAt table j
+pub taking-elsewhere : (us : List Step) (table : List ℕ) (j : ℕ) → All (λ s. s .at ≡ j → ⊥) us → rowAt (taking (taken-by us) table) j ≡ rowAt table j
 unfolding taking
 taking-elsewhere [] table j none-all = refl
 taking-elsewhere (u ∷ us) table j (one-all h hs) =
@@ -223,7 +223,7 @@ entries-taken n (one-place {s} {ss} {us} e p) u table room once spelled =
       on-spelled = on′;
     })
 
-hooking-elsewhere : (p : Perhaps Step) (v : ℕ) (table : List ℕ) (j : ℕ) → If-such (λ s. s .at ≡ j → ⊥) p → rowAt (hooking p v table) j ≡ rowAt table j
+pub hooking-elsewhere : (p : Perhaps Step) (v : ℕ) (table : List ℕ) (j : ℕ) → If-such (λ s. s .at ≡ j → ⊥) p → rowAt (hooking p v table) j ≡ rowAt table j
 hooking-elsewhere no-such v table j h = refl
 hooking-elsewhere (such s) v table j h = link-elsewhere (s .at) table j (λ e. h (sym e)) (s .turn) v
 
@@ -364,3 +364,11 @@ often-in j (x ∷ xs) h = by-cases (eqb j x) refl h (often-in j xs)
     by-cases : (b : Bool) → eqb j x ≡ b → 1 ≤ (if b then 1 else 0) + often j xs → (1 ≤ often j xs → j ∈ xs) → j ∈ x ∷ xs
     by-cases true e h rest = List·Memᴰ·head (eqb-true j x e)
     by-cases false e h rest = List·Memᴰ·tail (rest (omega arith))
+
+-- and a row that is not in the tree stays as it was
+pub way-elsewhere :
+    {ss us : List Step} → Same-places ss us → (u : Tree) (v : ℕ) (table : List ℕ) (j : ℕ) → (j ∈ numbers (chained ss u) → ⊥)
+    → rowAt (hooking (last-such anything ss) v (taking (taken-by us) table)) j ≡ rowAt table j
+way-elsewhere {ss} {us} p u v table j out =
+    hooking-elsewhere (last-such anything ss) v (taking (taken-by us) table) j (last-such-one anything (apart-from p u j out .1))
+    ∙ taking-elsewhere us table j (apart-from p u j out .0)

@@ -1,24 +1,21 @@
 -- The rows of a table spell a tree: each row of the tree stands where its number says, with its entry and the numbers of its parts for links.
 -- What a table shows without damage its rows spell, and a proper tree that the rows spell is what the table shows; so what `add` and `del`
 -- write can be followed row by row, with no thought of bits.
-use Prim.Native.Nat.{ℕ, zero, suc, _+_, _*_, _≤_, _<_}
+use Prim.Native.Nat.{ℕ, zero, suc, _+_, _*_, _<_}
 use mathlib.Core.Path.{_≡_, refl, sym, ap, _∙_}
-use mathlib.Core.Bool.{Bool, true, false, false≢true}
-use mathlib.Core.List.{List, [], _∷_, _++_}
+use mathlib.Core.Bool.{true, false≢true}
 use mathlib.Core.List.{List·Memᴰ·head, List·Memᴰ·tail, Memᴰ·append-left, Memᴰ·append-right}
 use native.Mathlib.Omega.{arith}
-use lib.Dec.{eqb}
 use Rattle.ordered.specs.Word.{Side, left, right, bitOf}
 use Rattle.ordered.specs.Said.{_∈_}
-use Rattle.ordered.specs.Tree.{Tree, none, row, damaged, Entry, part, exists, intact}
+use Rattle.ordered.specs.Tree.{Tree, none, row, Entry, part, exists, intact}
 use Rattle.ordered.specs.Proper.{Proper}
 use Rattle.ordered.specs.Change.{numberAt}
-use Rattle.pretree.specs.declared.Header.{Header}
 use Rattle.pretree.specs.declared.Row.{Row}
-use Rattle.pretree.specs.Table.{rowAt, link}
-use Rattle.pretree.specs.Unfold.{ends-there, linked, unfolded, shown}
+use Rattle.pretree.specs.Table.{link}
+use Rattle.pretree.specs.Unfold.{linked, unfolded}
 use Rattle.demands.specs.Numbers.{numbers}
-use Rattle.demands.proofs.Unfolding.{no-link, along-link, linked-row, key, hanging, opened, NoDamage, shown-row}
+use Rattle.demands.proofs.Unfolding.{no-link, along-link, linked-row, key, hanging, opened, shown-row}
 
 -- the row of a tree, as a table holds it
 abbrev pub row-of : Entry → Tree → Tree → Row

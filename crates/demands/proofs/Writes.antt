@@ -1,11 +1,10 @@
 -- What a write leaves in the rows: the row that is written as the write says, and every other row as it was.
 use Prim.Native.Nat.{ℕ, suc, _+_, _*_, _<_}
-use mathlib.Core.Path.{_≡_, refl, sym, _∙_}
+use mathlib.Core.Path.{_≡_, refl, _∙_}
 use mathlib.Core.List.{List, [], _∷_}
 use native.Mathlib.Numerals.{add-one, add-two}
-use native.Mathlib.Nat.{add-zero}
 use native.Mathlib.Omega.{arith}
-use lib.ListN.{length, getD, set, length-set}
+use lib.ListN.{length, set, length-set}
 use lib.Seq.{getD-set-same, getD-set-other, length-sets}
 use Rattle.ordered.specs.Such.{Perhaps, no-such, such}
 use Rattle.ordered.specs.Word.{Side, left, right, bitOf}
