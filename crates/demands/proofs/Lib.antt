@@ -18,3 +18,4 @@ pub mod Rewritten
 pub mod Added
 pub mod Removed
 pub mod Demand2
+pub mod History

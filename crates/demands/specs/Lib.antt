@@ -13,3 +13,4 @@ pub mod RowsRead
 pub mod Reached
 pub mod Expected
 pub mod Demand2
+pub mod History
