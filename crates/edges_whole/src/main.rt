@@ -1,5 +1,6 @@
-// Runs `new`, `audit` and `list` at their edges. A line has the call, its answer number, the rows, the width and the count of the header
-// that is handed back, and the words of the table (`new`) or of the buffer (`list`).
+// Runs the calls that write, and `audit`, at their edges. A line has the call, its answer number, the rows, the width and the count of the
+// header that is handed back, and the words of the table (`new`, `add`, `del`) or of the buffer (`list`); `del` has the moving count before
+// them.
 use libc::STDOUT_FILENO;
 use pretree::Answer;
 use pretree::Header;
@@ -8,6 +9,13 @@ use pretree::Reply;
 fn main() {
     lengths();
     widths();
+    full();
+    widest();
+    too_wide();
+    moved();
+    parents();
+    unmoved();
+    damaged();
     sound();
     wrong_headers();
     links();
@@ -34,6 +42,66 @@ fn widths() {
     renewed(32, &mut [5, 6, 7]);
     renewed(0, &mut [5, 6, 7]);
     renewed(33, &mut [5, 6, 7]);
+}
+
+// "Table of 3 words, W 4: `add` 5 answers 0, `add` 6 answers 5, `add` 5 answers 7", here with words that are no row behind it
+fn full() {
+    let mut table: [u32; 5] = [9, 9, 9, 70, 71];
+    let one = added(Header::fresh(4), &mut table, 5);
+    let two = added(one, &mut table, 6);
+    added(two, &mut table, 5);
+}
+
+// "W 32 takes 4,294,967,295": in, pushed down by a least word, out
+fn widest() {
+    let mut table: [u32; 6] = [0; 6];
+    let one = added(Header::fresh(32), &mut table, 4294967295);
+    let two = added(one, &mut table, 0);
+    let three = deleted(two, &mut table, 4294967295);
+    deleted(three, &mut table, 4294967295);
+}
+
+// "W 4 takes 15, refuses 16."
+fn too_wide() {
+    let mut table: [u32; 3] = [0; 3];
+    let one = added(Header::fresh(4), &mut table, 15);
+    let two = added(one, &mut table, 16);
+    deleted(two, &mut table, 16);
+}
+
+// A of document 01: "`del` 8" moves the last row; "`del` 15" takes it out
+fn moved() {
+    let four = Header { width: 4, count: 4 };
+    deleted(four, &mut [4, 0, 1, 8, 2, 3, 11, 0, 0, 15, 0, 0], 8);
+    deleted(four, &mut [4, 0, 1, 8, 2, 3, 11, 0, 0, 15, 0, 0], 15);
+    deleted(four, &mut [4, 0, 1, 8, 2, 3, 11, 0, 0, 15, 0, 0], 4);
+}
+
+// row 2 is the hole's parent, and then lies on the stretch that gives up its keys
+fn parents() {
+    let three = Header { width: 4, count: 3 };
+    deleted(three, &mut [1, 2, 0, 6, 0, 0, 5, 0, 1], 6);
+    deleted(three, &mut [1, 2, 0, 6, 0, 0, 5, 0, 1], 1);
+}
+
+// an absent word, an empty set, a wrong header
+fn unmoved() {
+    let one = Header { width: 4, count: 1 };
+    deleted(one, &mut [4, 0, 0], 5);
+    deleted(Header::fresh(4), &mut [9, 9, 9], 9);
+    deleted(one, &mut [9, 9], 16);
+    added(one, &mut [9, 9], 16);
+}
+
+// the one row 4, 0, 9: a full table is judged too, as far as the push goes; and a second way that does not end at the last row
+fn damaged() {
+    let one = Header { width: 4, count: 1 };
+    added(one, &mut [4, 0, 9], 8);
+    added(one, &mut [4, 0, 9], 3);
+    added(one, &mut [4, 0, 9, 0, 0, 0], 3);
+    added(one, &mut [8, 0, 9], 3);
+    deleted(one, &mut [4, 0, 9], 4);
+    deleted(Header { width: 4, count: 2 }, &mut [4, 0, 0, 8, 0, 0], 4);
 }
 
 // A of document 01; the empty set, at any rows; the widest word; the two words of one bit
@@ -110,6 +178,23 @@ fn renewed(width: u32, table: &mut [u32]) {
     words(table);
 }
 
+fn added(header: Header, table: &mut [u32], word: u32) -> Header {
+    io::write_all(STDOUT_FILENO, b"add");
+    let reply = header.add(table, word);
+    replied(reply);
+    words(table);
+    reply.header
+}
+
+fn deleted(header: Header, table: &mut [u32], word: u32) -> Header {
+    io::write_all(STDOUT_FILENO, b"del");
+    let reply = header.del(table, word);
+    replied(reply);
+    number(reply.moved);
+    words(table);
+    reply.header
+}
+
 fn audited(width: u32, count: u32, table: &[u32]) {
     let header = Header { width, count };
     io::write_all(STDOUT_FILENO, b"audit");
@@ -158,13 +243,13 @@ fn number_of(answer: Answer) -> u32 {
         Answer::Done => 0,
         Answer::WrongWidth => 1,
         Answer::WrongHeader => 2,
+        Answer::WordTooWide => 3,
         Answer::Damage => 4,
+        Answer::Full => 5,
         Answer::ShortBuffer => 6,
+        Answer::AlreadyThere => 7,
+        Answer::NoSuchWord => 8,
         Answer::Word(_) => 99,
         Answer::Distance(_) => 99,
-        Answer::WordTooWide => 99,
-        Answer::Full => 99,
-        Answer::AlreadyThere => 99,
-        Answer::NoSuchWord => 99,
     }
 }
