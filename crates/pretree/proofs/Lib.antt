@@ -4,6 +4,8 @@ pub mod Checks
 pub mod Unfolding
 pub mod Walking
 pub mod Seeking
+pub mod Between
+pub mod Skimming
 pub mod Falling
 pub mod Raising
 pub mod Ended

@@ -10,6 +10,7 @@ pub mod Del
 pub mod Whole
 pub mod Part
 pub mod Walk
+pub mod Skim
 pub mod Resume
 pub mod Push
 pub mod Found

@@ -3,13 +3,16 @@
 use crate::Answer;
 use crate::Header;
 use crate::Reply;
-use crate::seek::way_of;
+use crate::skim::skimmed;
+use crate::table::row_at;
 use crate::walk::Stage;
 ghost use mathlib.Core.Path.{_≡_};
 ghost use mathlib.Core.Bool.{false};
+ghost use Prim.Native.Nat.{_+_, _≤_};
 ghost use Rattle.pretree.specs.Reply.{wrong-header, too-wide, refused, answered};
 ghost use Rattle.pretree.specs.Find.{hasReply};
 ghost use Rattle.pretree.specs.Found.{found-by};
+ghost use Rattle.pretree.specs.Walk.{endRead};
 
 impl Header {
     // "1 to 6 and 9 are refusals: counts 0, header, table and buffer untouched."
@@ -54,26 +57,37 @@ impl Header {
         requires width { ⌜ too-wide self word ≡ false ⌝ }
         ensures { λ r. ⌜ r ≡ hasReply self (now (table .entry)) word ⌝ }
     {
-        let w = way_of(table, self, word, word as u64);
-        let rows = w.rows(self.width);
-        let stage = w.stage;
-        self.found_at(word, stage, w.key, rows)
+        if self.count == 0 {
+            return self.answered(Answer::NoSuchWord, 0);
+        }
+        let s = skimmed(table, self, word);
+        let count = self.count as usize;
+        if count <= s.row {
+            return self.refused(Answer::Damage);
+        }
+        let at = s.row as u32;
+        let row = row_at(table, at);
+        let stage = s.end(word, row);
+        let passed = self.width - s.bits();
+        self.found_at(word, stage, row.entry.key, passed)
     }
 
-    fn found_at(self, word: u32, stage: Stage, key: u32, rows: u32) -> Reply
-        ensures { λ r. ⌜ r ≡ found-by self word key rows stage ⌝ }
+    // After so many rows that the way passed. A row at which it ends is read too.
+    fn found_at(self, word: u32, stage: Stage, key: u32, passed: u32) -> Reply
+        requires { ⌜ passed ≤ 32 ⌝ }
+        ensures { λ r. ⌜ r ≡ found-by self word key (passed + endRead stage) stage ⌝ }
     {
         match stage {
             Stage::AtDamage => self.refused(Answer::Damage),
             Stage::AtRow => {
                 if word == key {
-                    self.answered(Answer::Done, rows)
+                    self.answered(Answer::Done, passed + 1)
                 } else {
-                    self.answered(Answer::NoSuchWord, rows)
+                    self.answered(Answer::NoSuchWord, passed + 1)
                 }
             }
-            Stage::AtNone => self.answered(Answer::NoSuchWord, rows),
-            Stage::On => self.answered(Answer::NoSuchWord, rows),
+            Stage::AtNone => self.answered(Answer::NoSuchWord, passed),
+            Stage::On => self.answered(Answer::NoSuchWord, passed),
         }
     }
 }

@@ -8,6 +8,7 @@ mod find;
 mod gap;
 mod near;
 mod seek;
+mod skim;
 mod table;
 mod walk;
 mod whole;

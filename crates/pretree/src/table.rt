@@ -55,7 +55,11 @@ impl Header {
         if 32 < width {
             return true;
         }
-        capacity(table) < self.count
+        let count = self.count as usize;
+        if Header::MOST < count {
+            return true;
+        }
+        table.len() < Header::ROW * count
     }
 
     // Answer 3.

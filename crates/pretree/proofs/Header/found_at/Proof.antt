@@ -1,5 +1,6 @@
 -- By the stage, and at a row by its key.
 use mathlib.Core.Path.{_≡_}
+use native.Mathlib.Nat.{add-zero}
 use borrow.Author.Tests.{eq-eqb, ne-eqb}
 use Rattle.pretree.specs.declared.walk.Stage.the-variants.{On, AtNone, AtRow, AtDamage}
 use borrow.Author.Needs.{needs}
@@ -15,8 +16,14 @@ refused-requires c κs = search needs
 enum-told-2 : tie.Need-enum-told-2
 enum-told-2 c = search needs
 
+add-answered : tie.Need-add-answered
+add-answered c = search needs
+
 answered-requires : tie.Need-answered-requires
 answered-requires c κs = search needs
+
+add-answered-2 : tie.Need-add-answered-2
+add-answered-2 c = search needs
 
 answered-requires-2 : tie.Need-answered-requires-2
 answered-requires-2 c κs = search needs
@@ -51,12 +58,12 @@ returns-3 c =
 returns-4 : tie.Need-returns-4
 returns-4 c =
     let at : c .before .before .before .args .stage ≡ AtNone = search needs in
-    simp (at, c .answered3 .ensures)
+    simp (at, c .answered3 .ensures, add-zero)
 
 returns-5 : tie.Need-returns-5
 returns-5 c =
     let at : c .before .before .before .args .stage ≡ On = search needs in
-    simp (at, c .answered4 .ensures)
+    simp (at, c .answered4 .ensures, add-zero)
 
 pub found-at-spec : {M : Type 1} → statement M
 found-at-spec =
@@ -65,7 +72,9 @@ found-at-spec =
     enum-told
     refused-requires
     enum-told-2
+    add-answered
     answered-requires
+    add-answered-2
     answered-requires-2
     enum-told-3
     answered-requires-3

@@ -1,9 +1,30 @@
 -- Each test of the code is one of the definition's.
+use Prim.Native.Nat.{ℕ, _*_, _/_, _≤_, _<_, min}
+use mathlib.Core.Path.{_≡_, refl, sym}
+use mathlib.Core.Bool.{Bool, true, false}
+use native.Mathlib.Omega.{arith}
+use lib.Dec.{ltb}
+use lib.ListN.{length}
 use borrow.Author.Needs.{needs}
-use borrow.Author.Tests.{eq-eqb, ne-eqb, lt-ltb, le-ltb}
+use borrow.Author.Tests.{eq-eqb, ne-eqb, lt-ltb, le-ltb, ltb-true, ltb-false}
+use Rattle.pretree.specs.Table.{capacity}
 use Rattle.pretree.specs.Reply.{wrong-header}
 use Rattle.pretree.proofs.Header.is_wrong.Statement.{statement}
 use Rattle.pretree.proofs.Header.is_wrong.Tie as tie
+
+-- the rows fit if their words do
+by-words : (n count : ℕ) → count ≤ 65535 → ltb n (3 * count) ≡ ltb (min (n / 3) 65535) count
+by-words n count few = go (ltb n (3 * count)) refl
+  where
+    go : (b : Bool) → ltb n (3 * count) ≡ b → b ≡ ltb (min (n / 3) 65535) count
+    go true e =
+        let short : n < 3 * count = ltb-true n (3 * count) e in
+        let less : min (n / 3) 65535 < count = omega arith in
+        rw (lt-ltb (min (n / 3) 65535) count less)
+    go false e =
+        let long : 3 * count ≤ n = ltb-false n (3 * count) e in
+        let enough : count ≤ min (n / 3) 65535 = omega arith in
+        rw (le-ltb (min (n / 3) 65535) count enough)
 
 returns : tie.Need-returns
 unfolding wrong-header
@@ -13,13 +34,25 @@ returns-2 : tie.Need-returns-2
 unfolding wrong-header
 returns-2 c = simp (ne-eqb _ _ (c .before .if1 .left), lt-ltb _ _ (c .if2 .taken))
 
-capacity-requires : tie.Need-capacity-requires
-capacity-requires c κs = search needs
+cast-count : tie.Need-cast-count
+cast-count c = search needs
 
 returns-3 : tie.Need-returns-3
-unfolding wrong-header
+unfolding wrong-header capacity
 returns-3 c =
-    simp (ne-eqb _ _ (c .before .before .before .if1 .left), le-ltb _ _ (c .before .before .if2 .left), c .before .capacity .ensures)
+    let a = c .before .before .before .before .args in
+    let less : min (length (a .table .now) / 3) 65535 < a .self .count = omega arith in
+    simp (ne-eqb _ _ (c .before .before .before .if1 .left), le-ltb _ _ (c .before .before .if2 .left), lt-ltb _ _ less)
+
+mul-result : tie.Need-mul-result
+mul-result c = search needs
+
+returns-4 : tie.Need-returns-4
+unfolding wrong-header capacity
+returns-4 c =
+    let a = c .before .before .before .before .args in
+    simp (ne-eqb _ _ (c .before .before .before .if1 .left), le-ltb _ _ (c .before .before .if2 .left))
+    (by-words (length (a .table .now)) (a .self .count) (search needs))
 
 pub is-wrong-spec : {M : Type 1} → statement M
-is-wrong-spec = tie.close (tie.spec returns returns-2 capacity-requires returns-3)
+is-wrong-spec = tie.close (tie.spec returns returns-2 cast-count returns-3 mul-result returns-4)
