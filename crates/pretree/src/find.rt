@@ -16,7 +16,7 @@ ghost use Rattle.pretree.specs.Walk.{endRead};
 
 impl Header {
     // "1 to 6 and 9 are refusals: counts 0, header, table and buffer untouched."
-    pub fn refused(self, answer: Answer) -> Reply
+    pub(crate) fn refused(self, answer: Answer) -> Reply
         ensures { λ r. ⌜ r ≡ refused self answer ⌝ }
     {
         Reply {
@@ -28,7 +28,7 @@ impl Header {
     }
 
     // An answer that leaves the set as it was.
-    pub fn answered(self, answer: Answer, rows: u32) -> Reply
+    pub(crate) fn answered(self, answer: Answer, rows: u32) -> Reply
         ensures { λ r. ⌜ r ≡ answered self answer rows ⌝ }
     {
         Reply {

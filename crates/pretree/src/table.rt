@@ -45,7 +45,7 @@ pub fn capacity(table: &[u32]) -> u32
 
 impl Header {
     // Answer 2.
-    pub fn is_wrong(self, table: &[u32]) -> bool
+    pub(crate) fn is_wrong(self, table: &[u32]) -> bool
         ensures { λ r. ⌜ r ≡ wrong-header self (now (table .entry)) ⌝ }
     {
         let width = self.width;
@@ -63,7 +63,7 @@ impl Header {
     }
 
     // Answer 3.
-    pub fn is_exceeded_by(self, word: u32) -> bool
+    pub(crate) fn is_exceeded_by(self, word: u32) -> bool
         requires { ⌜ self .width ≤ 32 ⌝ }
         ensures { λ r. ⌜ r ≡ too-wide self word ⌝ }
     {
