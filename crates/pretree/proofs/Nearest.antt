@@ -15,6 +15,7 @@ use Rattle.pretree.specs.declared.Header.{Header}
 use Rattle.pretree.specs.declared.Answer.{Answer}
 use Rattle.pretree.specs.declared.Answer.the-variants.{Word, Distance, Damage, WrongHeader, WordTooWide}
 use Rattle.pretree.specs.declared.Reply.{Reply}
+use Rattle.pretree.specs.declared.gap.Neighbour.{Neighbour}
 use Rattle.pretree.specs.declared.walk.Stage.{Stage}
 use Rattle.pretree.specs.declared.walk.Stage.the-variants.{On, AtNone, AtRow, AtDamage}
 use Rattle.pretree.specs.declared.walk.Walk.{Walk}
@@ -22,7 +23,7 @@ use Rattle.pretree.specs.Table.{rowAt}
 use Rattle.pretree.specs.Unfold.{shown}
 use Rattle.pretree.specs.Reply.{wrong-header, too-wide, refused, answered}
 use Rattle.pretree.specs.Find.{saying, prevReply, nextReply, gapReply}
-use Rattle.pretree.specs.Gap.{neighbour, between, gap-from}
+use Rattle.pretree.specs.Gap.{neighbour, from-both, between, gap-from}
 use Rattle.pretree.specs.Walk.{seeking, rowsRead, Walked}
 use Rattle.pretree.proofs.Checks.{right-header}
 use Rattle.pretree.proofs.Ended.{endsIn, all-gone, rows-gone}
@@ -34,6 +35,13 @@ abbrev reply-with : Header → (ℕ → Answer) → Reading → Reply
 reply-with h word r =
     if brokenIn (r .ways) then refused h Damage
     else answered h (saying word (r .answer)) (rowsOf (r .ways))
+
+-- `between` by the neighbours that the replies p and n name
+pub between-is : (h : Header) (k : ℕ) (p n : Reply) {p' n' : Reply} {lower upper : Neighbour} → p ≡ p' → n ≡ n'
+    → neighbour (p .answer) ≡ lower → upper ≡ neighbour (n .answer)
+    → from-both h k (p .rows + n .rows) lower upper ≡ between h k p' n'
+unfolding between
+between-is h k p n below above low up = rw (← below, ← above, low, up)
 
 broken-append : (vs ws : List Way) → brokenIn (vs ++ ws) ≡ (brokenIn vs || brokenIn ws)
 unfolding brokenIn

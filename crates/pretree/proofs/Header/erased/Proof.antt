@@ -1,5 +1,7 @@
 -- Where the way of the word ended.
-use mathlib.Core.Path.{refl, _∙_}
+use mathlib.Core.Path.{_≡_, refl, sym, _∙_}
+use mathlib.Core.Bool.{true, false}
+use Rattle.pretree.specs.Resume.{isDamage, endsAt}
 use Rattle.pretree.proofs.Checks.{right-header}
 use Rattle.pretree.proofs.Erasing.{on-damage, broken-above, not-there}
 use borrow.Author.Needs.{needs}
@@ -15,7 +17,7 @@ ends-at-requires c κs = search needs
 hollowed-requires : tie.Need-hollowed-requires
 hollowed-requires c κs =
     let start = c .before .before .before .before .before .before in
-    (start .pre .0, (start .pre .1, (c .before .before .before .way-of .ensures, cc)))
+    (start .pre .0, (start .pre .1, (c .before .before .before .way-of .ensures, sym (c .before .before .ends-at .ensures) ∙ c .before .if1 .taken)))
 
 same-length : tie.Need-same-length
 same-length c = search needs
@@ -32,13 +34,19 @@ refused-requires c κs = search needs
 same-length-2 : tie.Need-same-length-2
 same-length-2 c = search needs
 
+-- the way doesn't end at the word
+absent : (c : tie.Else1)
+    → let w = c .before .before .way-of .result in endsAt (c .before .before .before .before .before .args .word) (w .key) (w .stage) ≡ false
+absent c = sym (c .before .ends-at .ensures) ∙ c .if1 .left
+
 returns-2 : tie.Need-returns-2
 returns-2 c =
     let start = c .before .before .before .before .before .before .before .before in
     let a = start .args in
     let w = c .before .before .before .before .before .way-of in
-    let broken = broken-above (a .self) (a .table .now) (a .word) (start .pre .0) (start .pre .1) (w .result) (w .ensures) (cc) in
-    let outcome = on-damage (a .self) (a .table .now) (a .word) (start .pre .0) (start .pre .1) (broken ∙ (cc)) in
+    let damaged : isDamage (w .result .stage) ≡ true = sym (c .before .before .is-damaged .ensures) ∙ c .before .if2 .taken in
+    let broken = broken-above (a .self) (a .table .now) (a .word) (start .pre .0) (start .pre .1) (w .result) (w .ensures) (absent (c .before .before .before)) in
+    let outcome = on-damage (a .self) (a .table .now) (a .word) (start .pre .0) (start .pre .1) (broken ∙ damaged) in
     rw outcome (c .refused .ensures, refl)
 
 rows-requires : tie.Need-rows-requires
@@ -57,7 +65,8 @@ returns-3 c =
     let start = c .before .before .before .before .before .before .before .before .before in
     let a = start .args in
     let w = c .before .before .before .before .before .before .way-of in
-    let outcome = not-there (a .self) (a .table .now) (a .word) (start .pre .0) (start .pre .1) (w .result) (w .ensures) (cc) (cc) in
+    let whole : isDamage (w .result .stage) ≡ false = sym (c .before .before .before .is-damaged .ensures) ∙ c .before .before .if2 .left in
+    let outcome = not-there (a .self) (a .table .now) (a .word) (start .pre .0) (start .pre .1) (w .result) (w .ensures) (absent (c .before .before .before .before)) whole in
     rw (outcome, ← c .before .rows .ensures) (c .answered .ensures, refl)
 
 pub erased-spec : {M : Type 1} → statement M

@@ -1,6 +1,6 @@
 -- Damage on the stretch, or what was judged of it.
-use mathlib.Core.Path.{_≡_, refl, _∙_}
-use mathlib.Core.Bool.{false}
+use mathlib.Core.Path.{_≡_, refl, sym, _∙_}
+use mathlib.Core.Bool.{true, false}
 use native.Mathlib.Nat.{le-trans}
 use Rattle.pretree.specs.Resume.{isDamage}
 use Rattle.pretree.proofs.Checks.{right-header}
@@ -34,7 +34,8 @@ returns c =
     let s = c .before .before .before .fallen in
     let fell = rw (c .before .before .before .before .restarted .ensures) at (s .ensures) in
     let broken = broken-below (a .self) (a .table .now) (start .pre .0) (a .word) (a .w) (start .pre .1 .1 .0) (start .pre .1 .1 .1) (s .result) fell in
-    let outcome = on-damage (a .self) (a .table .now) (a .word) (start .pre .0) (start .pre .1 .0) (broken ∙ (cc)) in
+    let damaged : isDamage (s .result .stage) ≡ true = sym (c .before .before .is-damaged .ensures) ∙ c .before .if1 .taken in
+    let outcome = on-damage (a .self) (a .table .now) (a .word) (start .pre .0) (start .pre .1 .0) (broken ∙ damaged) in
     rw outcome (c .refused .ensures, refl)
 
 sub-t12 : tie.Need-sub-t12
@@ -61,7 +62,7 @@ filled-requires c κs =
     let fell = rw (c .before .before .before .before .before .before .before .before .restarted .ensures) at (s .ensures) in
     let walked = start .pre .1 .1 .0 in
     let there = start .pre .1 .1 .1 in
-    let whole : isDamage (s .result .stage) ≡ false = cc in
+    let whole : isDamage (s .result .stage) ≡ false = sym (c .before .before .before .before .before .before .is-damaged .ensures) ∙ c .before .before .before .before .before .if1 .left in
     rw (c .before .before .hook-of .ensures, c .before .rows .ensures) (
       start .pre .0,
       (

@@ -1,10 +1,12 @@
 -- By what `prev` found; their two counts are small enough to be added.
-use Prim.Native.Nat.{ℕ, _≤_}
+use Prim.Native.Nat.{_+_, _≤_}
 use mathlib.Core.Path.{_≡_, sym, _∙_}
 use native.Mathlib.Omega.{arith}
-use Rattle.pretree.specs.declared.gap.Neighbour.the-variants.{At, Nowhere, Unknown}
-use Rattle.pretree.specs.Gap.{neighbour, between}
-use Rattle.pretree.proofs.Nearest.{few-below, few-above}
+use Rattle.pretree.specs.declared.gap.Neighbour.{Neighbour}
+use Rattle.pretree.specs.declared.gap.Neighbour.the-variants.{Nowhere, Unknown}
+use Rattle.pretree.specs.Find.{prevReply, nextReply}
+use Rattle.pretree.specs.Gap.{from-both, between}
+use Rattle.pretree.proofs.Nearest.{few-below, few-above, between-is}
 use borrow.Author.Needs.{needs}
 use Rattle.pretree.proofs.Header.nearest.Statement.{statement}
 use Rattle.pretree.proofs.Header.nearest.Tie as tie
@@ -52,32 +54,26 @@ enum-told-2 c = search needs
 refused-requires : tie.Need-refused-requires
 refused-requires c κs = search needs
 
+-- by what is below, the reply that the contract asks
+found : (c : tie.After-neighbour-in2) (lower : Neighbour) → c .before .neighbour-in .result ≡ lower
+    → let x = c .before .before .before .before in
+    let a = x .before .before .before .args in
+    from-both (a .self) (a .word) (x .before .prev .result .rows + x .next .result .rows) lower (c .neighbour-in2 .result)
+    ≡ between (a .self) (a .word) (prevReply (a .self) (a .table .now) (a .word)) (nextReply (a .self) (a .table .now) (a .word))
+found c lower e =
+    let x = c .before .before .before .before in
+    let a = x .before .before .before .args in
+    between-is (a .self) (a .word) (x .before .prev .result) (x .next .result) (x .before .prev .ensures) (x .next .ensures) (sym (c .before .neighbour-in .ensures) ∙ e) (c .neighbour-in2 .ensures)
+
 returns : tie.Need-returns
-unfolding between
 returns c =
-    let m = c .before .before .before .before .before in
-    let l = m .before in
-    let x = l .before .before .before in
-    rw (← x .before .prev .ensures, ← x .next .ensures)
-    (simp (sym (l .neighbour-in .ensures) ∙ c .before .before .before .lower .given .1, ← m .neighbour-in2 .ensures, c .from-below .ensures, c .before .distance .ensures))
+    rw (c .from-below .ensures, c .before .distance .ensures) (found (c .before .before .before .before .before) _ (c .before .before .before .lower .given .1))
 
 returns-2 : tie.Need-returns-2
-unfolding between
-returns-2 c =
-    let m = c .before .before .before in
-    let l = m .before in
-    let x = l .before .before .before in
-    rw (← x .before .prev .ensures, ← x .next .ensures)
-    (simp (sym (l .neighbour-in .ensures) ∙ c .before .enum-told .given .1, ← m .neighbour-in2 .ensures, c .from-above .ensures))
+returns-2 c = rw (c .from-above .ensures) (found (c .before .before .before) Nowhere (c .before .enum-told .given .1))
 
 returns-3 : tie.Need-returns-3
-unfolding between
-returns-3 c =
-    let m = c .before .before .before in
-    let l = m .before in
-    let x = l .before .before .before in
-    rw (← x .before .prev .ensures, ← x .next .ensures)
-    (simp (sym (l .neighbour-in .ensures) ∙ c .before .enum-told2 .given .1, ← m .neighbour-in2 .ensures, c .refused .ensures))
+returns-3 c = rw (c .refused .ensures) (found (c .before .before .before) Unknown (c .before .enum-told2 .given .1))
 
 pub nearest-spec : {M : Type 1} → statement M
 nearest-spec =

@@ -131,7 +131,7 @@ module _ (t : ℕ) where
       let two = parts.sides (s .pre .1) _ _ _ _ (row-sides d) in
       let same = length-set (s .args .buffer .now) (s .args .next) (d .before .before .row-at .result .entry .key) in (
         omega (arith, s .pre .0, d .if1 .left),
-        (row-turns d _ (omega arith), record { in-table = s .pre .1 .in-table; whole = cc; room = omega arith }),
+        (row-turns d _ (omega arith), record { in-table = s .pre .1 .in-table; whole = two .whole-left; room = omega arith }),
       )
 
   row-listed-side-listed-requires-2 : row-listed-lts.Need-side-listed-requires-2 (by-row t) (row-listed-at t) row-listed.Post
@@ -142,7 +142,7 @@ module _ (t : ℕ) where
       let two = parts.sides (s .pre .1) _ _ _ _ (row-sides d) in
       let same = g .side-listed .kept .1 .1 .1 .1 .1 .0 ∙ length-set (s .args .buffer .now) (s .args .next) (d .before .before .row-at .result .entry .key) in (
         omega (arith, s .pre .0, d .if1 .left),
-        (row-turns d _ (omega arith), record { in-table = s .pre .1 .in-table; whole = cc; room = omega (arith, g .side-listed .ensures .0) }),
+        (row-turns d _ (omega arith), record { in-table = s .pre .1 .in-table; whole = two .whole-right; room = omega (arith, g .side-listed .ensures .0) }),
       )
 
   row-listed-same-length-2 : row-listed-lts.Need-same-length-2 (by-row t) (row-listed-at t) row-listed.Post

@@ -1,10 +1,7 @@
 -- Each test of the code is one of the definition's.
-use Prim.Native.Nat.{_/_, _^_, _≤_}
-use mathlib.Core.Path.{_≡_}
 use native.Mathlib.Nat.{pos-of-ne-zero}
+use Rattle.pretree.proofs.Tests.{too-low, astray, inside, left-below, right-below}
 use borrow.Author.Needs.{needs}
-use borrow.Author.Tests.{eq-eqb, ne-eqb, le-leb, lt-leb}
-use Rattle.pretree.proofs.Tests.{inner, deepest-row}
 use Rattle.pretree.proofs.whole.Place.holds.Statement.{statement}
 use Rattle.pretree.proofs.whole.Place.holds.Tie as tie
 
@@ -12,7 +9,9 @@ cast-key : tie.Need-cast-key
 cast-key c = search needs
 
 returns : tie.Need-returns
-returns c = simp (lt-leb _ _ (c .if1 .taken))
+returns c =
+    let a = c .before .before .before .args in
+    too-low (a .self .low) (a .self .path) (a .self .bits) (a .row) (c .if1 .taken)
 
 cast-if2 : tie.Need-cast-if2
 cast-if2 c = search needs
@@ -23,31 +22,22 @@ shr-if2 c = search needs
 returns-2 : tie.Need-returns-2
 returns-2 c =
     let a = c .before .before .before .before .before .args in
-    let low : a .self .low ≤ a .row .entry .key = search needs in
-    simp (le-leb _ _ low, ne-eqb _ _ (c .if2 .taken))
+    astray (a .self .low) (a .self .path) (a .self .bits) (a .row) (c .before .before .if1 .left) (c .if2 .taken)
 
 returns-3 : tie.Need-returns-3
 returns-3 c =
     let a = c .before .before .before .before .before .before .args in
-    let low : a .self .low ≤ a .row .entry .key = search needs in
-    simp (le-leb _ _ low, eq-eqb _ _ (c .before .if2 .left), inner (a .self .bits) (a .row) (pos-of-ne-zero (c .if3 .taken)))
+    inside (a .self .low) (a .self .path) (a .self .bits) (a .row) (c .before .before .before .if1 .left) (c .before .if2 .left) (pos-of-ne-zero (c .if3 .taken))
 
 returns-4 : tie.Need-returns-4
 returns-4 c =
     let a = c .before .before .before .before .before .before .before .before .args in
-    let low : a .self .low ≤ a .row .entry .key = search needs in
-    let same : a .row .entry .key / 2 ^ a .self .bits ≡ a .self .path = search needs in
-    let last : a .self .bits ≡ 0 = search needs in
-    simp (le-leb _ _ low, eq-eqb _ _ same, deepest-row (a .self .bits) (a .row) last, ne-eqb _ _ (c .if4 .taken))
+    left-below (a .self .low) (a .self .path) (a .self .bits) (a .row) (c .before .before .before .before .before .if1 .left) (c .before .before .before .if2 .left) (c .before .before .if3 .left) (c .if4 .taken)
 
 returns-5 : tie.Need-returns-5
 returns-5 c =
     let a = c .before .before .before .before .before .before .before .before .before .args in
-    let low : a .self .low ≤ a .row .entry .key = search needs in
-    let same : a .row .entry .key / 2 ^ a .self .bits ≡ a .self .path = search needs in
-    let last : a .self .bits ≡ 0 = search needs in
-    let none : a .row .left ≡ 0 = search needs in
-    simp (le-leb _ _ low, eq-eqb _ _ same, deepest-row (a .self .bits) (a .row) last, eq-eqb _ _ none)
+    right-below (a .self .low) (a .self .path) (a .self .bits) (a .row) (c .before .before .before .before .before .before .if1 .left) (c .before .before .before .before .if2 .left) (c .before .before .before .if3 .left) (c .before .if4 .left)
 
 pub holds-spec : {M : Type 1} → statement M
 holds-spec = tie.close (tie.spec cast-key returns cast-if2 shr-if2 returns-2 returns-3 returns-4 returns-5)
