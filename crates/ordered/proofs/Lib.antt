@@ -2,6 +2,7 @@
 pub mod Examples
 pub mod Lists
 pub mod Dictionary
+pub mod Nearest
 pub mod Bits
 pub mod Parts
 pub mod OneTree

@@ -1,6 +1,6 @@
 -- The ordered dictionary in the words of source 004: what it says of each operation, as a proposition about the elements of the set S.
 -- proofs/Dictionary.antt proves it of the operation.
-use Prim.Native.Nat.{ℕ, _≤_}
+use Prim.Native.Nat.{ℕ, _+_, _-_, _≤_}
 use mathlib.Core.Path.{_≡_}
 use mathlib.Core.Logic.{_↔_, _⊎_}
 use mathlib.Core.Bool.{Bool, true}
@@ -39,3 +39,12 @@ Least = Foremost _≤_
 -- "predecessor(x), which returns the largest element of S smaller than x": `Greatest (λ y. ltb y x) s`
 abbrev pub Greatest : (ℕ → Bool) → List ℕ → Perhaps ℕ → Type 0
 Greatest = Foremost (λ y z. z ≤ y)
+
+-- how far two words lie apart: one of the two differences is 0
+abbrev pub apart : ℕ → ℕ → ℕ
+apart x y = (x - y) + (y - x)
+
+-- document 01's `gap`: "distance to the nearest word; 0 if k is present", or that there is no word
+pub data Nearest (k : ℕ) (s : List ℕ) : Perhaps ℕ → Type 0 where
+  nearest-is : {y d : ℕ} → y ∈ s → d ≡ apart k y → ((z : ℕ) → z ∈ s → d ≤ apart k z) → Nearest k s (such d)
+  no-nearest : ((z : ℕ) → z ∈ s → ⊥) → Nearest k s no-such
