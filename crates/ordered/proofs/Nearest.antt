@@ -33,8 +33,8 @@ module _ (k : ℕ) (s : List ℕ) where
           by-side absent z in-s (λ less. omega (arith, p-most z in-s (lt-ltb z k less))) (λ more. omega (arith, n-least z in-s (lt-ltb k z more)))
 
       go : (b : Bool) → leb (k - p) (n - k) ≡ b → Nearest k s (such (min (k - p) (n - k)))
-      go true e = nearest-is p-in (omega (arith, leb-true _ _ e, ltb-true p k p-less)) least
-      go false e = nearest-is n-in (omega (arith, leb-false _ _ e, ltb-true k n n-more)) least
+      go true e = nearest-is p-in (omega (arith, leb-true (k - p) (n - k) e, ltb-true p k p-less)) least
+      go false e = nearest-is n-in (omega (arith, leb-false (k - p) (n - k) e, ltb-true k n n-more)) least
   from-both absent (it-is {y = p} p-in p-less p-most) (none-is none-above) =
       nearest-is {d = k - p} p-in (omega (arith, ltb-true p k p-less))
       (λ z in-s. by-side absent z in-s (λ less. omega (arith, p-most z in-s (lt-ltb z k less))) (λ more. absurd (none-above z in-s (lt-ltb k z more))))
