@@ -33,8 +33,8 @@ module _ (k : ℕ) (s : List ℕ) where
           by-side absent z in-s (λ less. omega (arith, p-most z in-s (lt-ltb z k less))) (λ more. omega (arith, n-least z in-s (lt-ltb k z more)))
 
       go : (b : Bool) → leb (k - p) (n - k) ≡ b → Nearest k s (such (min (k - p) (n - k)))
-      go true e = nearest-is p-in (omega (arith, leb-true (k - p) (n - k) e, ltb-true p k p-less)) least
-      go false e = nearest-is n-in (omega (arith, leb-false (k - p) (n - k) e, ltb-true k n n-more)) least
+      go true e = nearest-is {d = min (k - p) (n - k)} p-in (omega (arith, leb-true (k - p) (n - k) e, ltb-true p k p-less)) least
+      go false e = nearest-is {d = min (k - p) (n - k)} n-in (omega (arith, leb-false (k - p) (n - k) e, ltb-true k n n-more)) least
   from-both absent (it-is {y = p} p-in p-less p-most) (none-is none-above) =
       nearest-is {d = k - p} p-in (omega (arith, ltb-true p k p-less))
       (λ z in-s. by-side absent z in-s (λ less. omega (arith, p-most z in-s (lt-ltb z k less))) (λ more. absurd (none-above z in-s (lt-ltb k z more))))
@@ -48,5 +48,5 @@ module _ (k : ℕ) (s : List ℕ) where
   gap-nearest rising = go (lookup k s) refl
     where
       go : (b : Bool) → lookup k s ≡ b → Nearest k s (if b then such 0 else nearest k (predecessor k s) (successor k s))
-      go true e = nearest-is (lookup-whether k s .0 e) (omega arith) (λ z in-s. omega arith)
+      go true e = nearest-is {y = k} {d = 0} (lookup-whether k s .0 e) (omega arith) (λ z in-s. omega arith)
       go false e = from-both (λ there. true≢false (sym (lookup-whether k s .1 there) ∙ e)) (predecessor-greatest k rising) (successor-least k rising)
