@@ -89,7 +89,7 @@ returns-5 c =
     let a = e .before .before .before .before .before .before .args in
     let l = lists-all (a .self) (a .table .now) (a .buffer .now) (right-there (e .before .before)) (sound-there e) (d .before .if3 .left) (d .if4 .left) in
     let written = rw (g .before .before .root .ensures) at (g .row-listed .ensures .1) in
-    (c .done2 .ensures ∙ l .0, written ∙ l .1)
+    (c .done2 .ensures ∙ l .0, rw written (l .1))
 
 pub list-spec : {M : Type 1} → statement M
 list-spec =
