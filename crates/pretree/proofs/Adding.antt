@@ -1,5 +1,5 @@
 -- The outcome of `add`, from the walk that went the way of the word and the walk that went on with the push.
-use Prim.Native.Nat.{ℕ, _-_, _%_, _≤_, _<_}
+use Prim.Native.Nat.{ℕ, suc, _-_, _%_, _≤_, _<_}
 use mathlib.Core.Path.{_≡_, refl, sym}
 use mathlib.Core.Bool.{Bool, true, false, true≢false}
 use mathlib.Core.List.{List, _++_}
@@ -7,7 +7,7 @@ use native.Mathlib.Nat.{le-trans, lt-of-lt-of-le}
 use native.Mathlib.Omega.{arith}
 use lib.Dec.{ltb, eqb}
 use lib.ListN.{length}
-use borrow.Author.Tests.{lt-ltb}
+use borrow.Author.Tests.{lt-ltb, eq-eqb, ne-eqb}
 use Rattle.ordered.specs.Such.{if_then_else_, such, no-such, last-such, anything}
 use Rattle.ordered.specs.Word.{Side, sideOf}
 use Rattle.ordered.specs.Tree.{Tree, none, damaged}
@@ -16,18 +16,19 @@ use Rattle.ordered.specs.Way as Ways
 use Rattle.ordered.specs.Change.{isThere, ends-at, adding, adding-by}
 use Rattle.ordered.proofs.Parts.{All, none-all, all-append, If-such, last-such-one}
 use Rattle.pretree.specs.declared.Header.{Header}
+use Rattle.pretree.specs.declared.Entry.{Entry}
 use Rattle.pretree.specs.declared.Row.{Row}
-use Rattle.pretree.specs.declared.Answer.the-variants.{AlreadyThere}
+use Rattle.pretree.specs.declared.Answer.the-variants.{Done, Damage, Full, AlreadyThere}
 use Rattle.pretree.specs.declared.walk.Stage.{Stage}
 use Rattle.pretree.specs.declared.walk.Stage.the-variants.{On, AtNone, AtRow, AtDamage}
 use Rattle.pretree.specs.declared.walk.Walk.{Walk}
-use Rattle.pretree.specs.Table.{capacity, rowAt, hooked}
+use Rattle.pretree.specs.Table.{capacity, rowAt, withRow, hooked}
 use Rattle.pretree.specs.Unfold.{shown}
-use Rattle.pretree.specs.Reply.{wrong-header, too-wide, answered}
+use Rattle.pretree.specs.Reply.{wrong-header, too-wide, refused, answered}
 use Rattle.pretree.specs.Walk.{isOn, rowsRead, treeAt, to-come, stepAt, remembered, seeking, Goes, Walked}
 use Rattle.pretree.specs.Resume.{isDamage, endsAt, resumed, Going, GoingSome, GoneOn}
-use Rattle.pretree.specs.Add.{hooking, grown, addOutcome}
-use Rattle.pretree.specs.Push.{grownAt, Growable, outcomeWhere}
+use Rattle.pretree.specs.Add.{taking, hooking, grown, addOutcome}
+use Rattle.pretree.specs.Push.{takes-from, left-from, grownAt, Growable, outcomeWhere}
 use Rattle.pretree.proofs.Checks.{right-header}
 use Rattle.pretree.proofs.Walking.{at-none, at-damage}
 use Rattle.pretree.proofs.Seeking.{following-is}
@@ -40,6 +41,35 @@ pub hooks : (rows : ℕ → Row) (n m above i : ℕ) (s : Side) (table : List �
 unfolding stepAt
 hooks rows n m above i s table true = refl
 hooks rows n m above i s table false = refl
+
+-- where the word is not there: the writes one after the other, and the outcome in the order of document 01's refusals
+module _ (h : Header) (table : List ℕ) (k from bits : ℕ) (p : Walk) where
+  pub writes-grow : {entry : Entry} {pushed linked after : List ℕ}
+      → entry ≡ left-from (rowAt table) (p .bits) (bits - p .bits) from (record { key = k })
+      → pushed ≡ taking (takes-from (rowAt table) (p .bits) (bits - p .bits) from (record { key = k })) table
+      → linked ≡ hooked (ltb (p .bits) (h .width)) (p .above) (sideOf (p .path % 2)) (h .count) pushed
+      → after ≡ withRow (h .count) (record { entry = entry; left = 0; right = 0 }) linked
+      → after ≡ grownAt h table k from bits p
+  unfolding grownAt
+  writes-grow e t l a = rw (a, l, t, e)
+
+  pub on-damage : isDamage (p .stage) ≡ true → outcomeWhere h table k from bits p ≡ record { reply = refused h Damage; table = table }
+  unfolding outcomeWhere
+  on-damage d = rw d
+
+  module _ (unbroken : isDamage (p .stage) ≡ false) where
+    pub on-full : h .count ≡ capacity table → outcomeWhere h table k from bits p ≡ record { reply = refused h Full; table = table }
+    unfolding outcomeWhere
+    on-full full = rw (unbroken, eq-eqb _ _ full)
+
+    pub on-done : (h .count ≡ capacity table → ⊥)
+        → outcomeWhere h table k from bits p
+        ≡ record {
+          reply = answered (record { width = h .width; count = suc (h .count) }) Done (rowsRead p (h .width));
+          table = grownAt h table k from bits p;
+        }
+    unfolding outcomeWhere
+    on-done room = rw (unbroken, ne-eqb _ _ room)
 
 module _ (h : Header) (table : List ℕ) (k : ℕ) (w : Walk) (fine : wrong-header h table ≡ false)
     (gone : Walked (rowAt table) (seeking k k) (h .width) (h .count) (shown h table) w) where

@@ -29,10 +29,10 @@ use Rattle.pretree.specs.Table.{capacity, rowAt, withRow, cleared}
 use Rattle.pretree.specs.Unfold.{linked, shown}
 use Rattle.pretree.specs.Reply.{wrong-header, too-wide, refused, answered}
 use Rattle.pretree.specs.Walk.{rowsRead, treeAt, to-come, stepAt, remembered, seeking, Goes, Placed, Walked, Begun, Fell}
-use Rattle.pretree.specs.Add.{hooking}
+use Rattle.pretree.specs.Add.{taking, hooking}
 use Rattle.pretree.specs.Del.{secondWay, astray, moving, shrunk, delOutcome}
 use Rattle.pretree.specs.Resume.{isDamage, endsAt, Going}
-use Rattle.pretree.specs.Erased.{restarted, hookOf, hookedAt, Hooks, Hangs, Hollow, Moves, Within, filled, emptied}
+use Rattle.pretree.specs.Erased.{restarted, hookOf, hookedAt, Hooks, Hangs, raising, Hollow, Moves, Within, filled, emptied}
 use Rattle.pretree.proofs.Checks.{right-header}
 use Rattle.pretree.proofs.Ended.{endPart, Gone, all-gone, rows-gone}
 use Rattle.pretree.proofs.Seeking.{following-is}
@@ -276,6 +276,16 @@ module _ (h : Header) (table : List ℕ) (fine : wrong-header h table ≡ false)
           rows = sym (rows-are h table fine last-key w gone);
           hook = λ needed. hooks-whole h table fine last-key w gone;
         }
+
+-- one write after the other, each on what the one before it left
+pub writes-empty : (last : ℕ) (hole : Hole) (m : Move) (table : List ℕ) {raised unlinked moved after : List ℕ}
+    → raised ≡ taking (raising (rowAt table) (hole .steps) (hole .from)) table
+    → unlinked ≡ hookedAt (hole .hook) 0 raised
+    → moved ≡ filled (hole .row) last m unlinked
+    → after ≡ withRow last cleared moved
+    → after ≡ emptied last hole m table
+unfolding emptied
+writes-empty last hole m table r u f a = rw (a, f, u, r)
 
 -- the outcome, in the order of document 01's refusals
 module _ (h : Header) (table : List ℕ) (k : ℕ) (fine : wrong-header h table ≡ false) (small : too-wide h k ≡ false) where

@@ -15,6 +15,8 @@ use Rattle.ordered.specs.Word.{Side, left, right, bitOf}
 use Rattle.ordered.specs.Tree.{Tree, none, row, damaged, Entry, intact, size, listing}
 use Rattle.ordered.proofs.OneTree.{listing-length}
 use Rattle.pretree.specs.declared.Header.{Header}
+use Rattle.pretree.specs.declared.Answer.the-variants.{Done, WrongHeader, Damage, ShortBuffer}
+use Rattle.pretree.specs.declared.Reply.{Reply}
 use Rattle.pretree.specs.declared.Row.{Row}
 use Rattle.pretree.specs.declared.whole.Place.{Place}
 use Rattle.pretree.specs.declared.whole.Rest.{Rest}
@@ -22,7 +24,8 @@ use Rattle.pretree.specs.declared.whole.Rest.the-variants.{Rows, Damaged
 use Rattle.pretree.specs.Table.{capacity, rowAt, link}
 use Rattle.pretree.specs.Unfold.{ends-there, judged, linked, unfolded, shown}
 use Rattle.pretree.specs.Sound.{isSound}
-use Rattle.pretree.specs.Reply.{wrong-width, wrong-header}
+use Rattle.pretree.specs.Reply.{wrong-width, wrong-header, refused, answered}
+use Rattle.pretree.specs.Whole.{listReply, listBuffer}
 use Rattle.pretree.specs.Part.{root, holds, rowPart, linkPart, sidePart, counted, Listable}
 
 -- two tests of the same fact agree
@@ -290,3 +293,34 @@ module _ (h : Header) (table : List ℕ) where
       -- its listing is `count` words, so the rest of the buffer is what stands after them
       pub sound-listed : (h .count ≡ 0 → ⊥) → sets buffer 0 (listing (rowPart (rowAt table) (h .count) (root (h .width)))) ≡ listing (shown h table) ++ drop (h .count) buffer
       sound-listed some = rw (← root-shown some) (written-first (listing (shown h table)) buffer (h .count) (listing-length (shown h table) ∙ sound-parts .1) room)
+
+-- ---- `list`, in the order of its refusals
+
+module _ (h : Header) (table buffer : List ℕ) where
+  -- what it answers, and what it leaves in the buffer
+  abbrev Lists : Reply → List ℕ → Type 0
+  Lists r after = (r ≡ listReply h table buffer) × (after ≡ listBuffer h table buffer)
+
+  pub lists-wrong : wrong-header h table ≡ true → Lists (refused h WrongHeader) buffer
+  unfolding listReply listBuffer
+  lists-wrong wrong = rw wrong (refl, refl)
+
+  module _ (good : wrong-header h table ≡ false) where
+    pub lists-damaged : isSound h table ≡ false → Lists (refused h Damage) buffer
+    unfolding listReply listBuffer
+    lists-damaged bad = rw (good, bad) (refl, refl)
+
+    module _ (sound : isSound h table ≡ true) where
+      pub lists-short : length buffer < h .count → Lists (refused h ShortBuffer) buffer
+      unfolding listReply listBuffer
+      lists-short short = rw (good, sound, lt-ltb _ _ short) (refl, refl)
+
+      module _ (room : h .count ≤ length buffer) where
+        pub lists-none : h .count ≡ 0 → Lists (answered h Done (h .count)) buffer
+        unfolding listReply listBuffer listing
+        lists-none empty = rw (good, sound, le-ltb _ _ room) (refl, rw (none-shown h table empty, empty))
+
+        pub lists-all : (h .count ≡ 0 → ⊥)
+            → Lists (answered h Done (h .count)) (sets buffer 0 (listing (rowPart (rowAt table) (h .count) (root (h .width)))))
+        unfolding listReply listBuffer
+        lists-all some = rw (good, sound, le-ltb _ _ room) (refl, sound-listed h table sound buffer room some)

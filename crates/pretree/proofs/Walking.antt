@@ -4,6 +4,7 @@ use mathlib.Core.Path.{_≡_, refl, sym, ap, _∙_, subst}
 use mathlib.Core.Bool.{Bool, true, false, not, _&&_, true≢false}
 use mathlib.Core.List.{List, [], _∷_}
 use native.Mathlib.Nat.{suc-ne-zero, le-trans, le-refl, lt-irrefl, pred-le, add-zero, sub-self, pos-of-ne-zero}
+use native.Mathlib.Numerals.{add-one}
 use native.Mathlib.Omega.{arith}
 use lib.Dec.{ltb, leb, eqb}
 use lib.ListN.{length}
@@ -24,6 +25,7 @@ use Rattle.pretree.specs.declared.walk.Walk.{Walk}
 use Rattle.pretree.specs.Table.{capacity, rowAt, link}
 use Rattle.pretree.specs.Unfold.{judged, linked, unfolded, shown}
 use Rattle.pretree.specs.Walk.{isOn, started, startedAt, holds, ended, remembering, passed, turned, stageAt, met, turnOf, toward, treeAt, to-come, toCome, below, stepAt, remembered, Goes, Placed, Memory, Walking, Begun, standing, partStart}
+use Rattle.pretree.proofs.Tests.{goes-right}
 use Rattle.pretree.proofs.Unfolding.{is-damaged, is-row, path-in-key, there}
 
 -- where a way ends at once
@@ -494,6 +496,14 @@ standing-at rows count m path low (suc l) =
         → standing rows (startedAt count (suc l) m path low) (if b then On else AtDamage) ≡ unfolded rows count m path low (suc l)
     go true h = refl
     go false h = sym (is-damaged rows count m path low (suc l) (rw h))
+
+-- the start of a part by the code's numbers
+module _ (count : ℕ) (r : Row) (side m : ℕ) where
+  pub starts-left : side ≡ 0 → startedAt count (r .left) m (r .entry .key / 2 ^ (m + 1) * 2) (r .entry .key + 1) ≡ partStart count r (sideOf side) m
+  starts-left e = rw (e, add-one m, add-one (r .entry .key), add-zero)
+
+  pub starts-right : (side ≡ 0 → ⊥) → startedAt count (r .right) m (r .entry .key / 2 ^ (m + 1) * 2 + 1) (r .entry .key + 1) ≡ partStart count r (sideOf side) m
+  starts-right e = rw (goes-right side e, add-one m, add-one (r .entry .key))
 
 -- so is the part of a row on a side, and what stands there is what the row's link shows
 module _ (table : List ℕ) (count m i : ℕ) (s : Side) where

@@ -1,6 +1,5 @@
 -- The row above, or the greatest word of its left part.
-use Prim.Native.Nat.{ℕ, suc, _≤_, _<_}
-use mathlib.Core.Path.{_≡_, sym, _∙_}
+use mathlib.Core.Path.{sym}
 use native.Mathlib.Nat.{le-of-lt, lt-of-lt-of-le}
 use borrow.Author.Tests.{lt-ltb, le-ltb, eq-eqb, ne-eqb}
 use Rattle.ordered.specs.Word.{left, right}
@@ -62,30 +61,29 @@ fallen-requires c κs =
     let ok : RightHeader (a .self) (a .table .now) = right-header (a .self) (a .table .now) (s .pre .0 .fine) in
     rw (c .part-of .ensures, c .before .before .before .before .row-at .ensures) (part-begun (a .table .now) (a .self .count) (a .bits) (a .above) left (le-of-lt (lt-of-lt-of-le (e .if1 .left) (ok .at-most-32))) (ok .has-room))
 
+-- the walk went down in the left part of the row above
+fell : (c : tie.After-fallen)
+    → let a = c .before .before .before .before .before .before .before .before .before .args in
+    Fell (rowAt (a .table .now)) (down right) (partStart (a .self .count) (rowAt (a .table .now) (a .above)) left (a .bits)) (c .fallen .result)
+fell c = rw (c .before .part-of .ensures, c .before .before .before .before .before .row-at .ensures) at (c .fallen .ensures)
+
 word-on-requires : tie.Need-word-on-requires
 word-on-requires c κs =
     let e = c .before .before .before .before .before .before in
     let s = e .before .before .before in
     let a = s .args in
     let ok : RightHeader (a .self) (a .table .now) = right-header (a .self) (a .table .now) (s .pre .0 .fine) in
-    let q = c in
-    let fell : Fell (rowAt (a .table .now)) (down right) (partStart (a .self .count) (rowAt (a .table .now) (a .above)) left (a .bits)) (q .fallen .result)
-    = rw (q .before .part-of .ensures, q .before .before .before .before .before .row-at .ensures) at (q .fallen .ensures) in
-    (s .pre .0 .few, part-fits (a .self) (a .table .now) (a .rows) (a .bits) (a .above) left (down right) (q .fallen .result) fell, (le-of-lt (lt-of-lt-of-le (e .if1 .left) (ok .at-most-32))))
+    (s .pre .0 .few, part-fits (a .self) (a .table .now) (a .rows) (a .bits) (a .above) left (down right) (c .fallen .result) (fell c), (le-of-lt (lt-of-lt-of-le (e .if1 .left) (ok .at-most-32))))
 
 returns-4 : tie.Need-returns-4
 returns-4 c =
-    let e = c .before .before .before .before .before .before .before in
-    let s = e .before .before .before in
-    let a = s .args in
-    let ok : RightHeader (a .self) (a .table .now) = right-header (a .self) (a .table .now) (s .pre .0 .fine) in
     let q = c .before in
     let p = q .before .before .before .before .before in
-    let fell : Fell (rowAt (a .table .now)) (down right) (partStart (a .self .count) (rowAt (a .table .now) (a .above)) left (a .bits)) (q .fallen .result)
-    = rw (q .before .part-of .ensures, q .before .before .before .before .before .row-at .ensures) at (q .fallen .ensures) in
-    let gone = then-at (a .self) (a .table .now) (a .rows) (a .bits) (a .above) left (down right) (q .fallen .result) fell in
+    let e = p .before in
+    let a = e .before .before .before .args in
+    let gone = then-at (a .self) (a .table .now) (a .rows) (a .bits) (a .above) left (down right) (q .fallen .result) (fell q) in
     simp (lt-ltb _ _ (e .if1 .left), goes-right _ (q .before .before .before .before .if2 .left), ne-eqb _ _ (rw (p .row-at .ensures) at (q .before .before .if3 .left)))
-    (c .word-on .ensures ∙ sym gone)
+    (rw (c .word-on .ensures) (sym gone))
 
 pub above-at-spec : {M : Type 1} → statement M
 above-at-spec =

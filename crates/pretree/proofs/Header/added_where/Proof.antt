@@ -1,13 +1,12 @@
 -- Damage, then a full table, then the writes.
-use mathlib.Core.Path.{_≡_, sym, _∙_}
-use mathlib.Core.Bool.{true, false}
+use mathlib.Core.Path.{_≡_, refl, sym, _∙_}
+use mathlib.Core.Bool.{false}
 use native.Mathlib.Numerals.{add-one}
 use native.Mathlib.Omega.{arith}
-use borrow.Author.Tests.{eq-eqb, ne-eqb}
 use Rattle.pretree.specs.Table.{capacity}
 use Rattle.pretree.specs.Resume.{isDamage}
-use Rattle.pretree.specs.Push.{outcomeWhere}
 use Rattle.pretree.proofs.Checks.{right-header}
+use Rattle.pretree.proofs.Adding.{on-damage, on-full, on-done}
 use borrow.Author.Needs.{needs}
 use Rattle.pretree.proofs.Header.added_where.Statement.{statement}
 use Rattle.pretree.proofs.Header.added_where.Tie as tie
@@ -19,11 +18,11 @@ refused-requires : tie.Need-refused-requires
 refused-requires c κs = search needs
 
 returns : tie.Need-returns
-unfolding outcomeWhere
 returns c =
     let q = c .before .before in
-    let damage : isDamage (q .before .before .args .p .stage) ≡ true = sym (q .is-damaged .ensures) ∙ c .before .if1 .taken in
-    (simp (damage, c .refused .ensures), simp damage)
+    let a = q .before .before .args in
+    rw (on-damage (a .self) (a .table .now) (a .word) (a .from) (a .bits) (a .p) (sym (q .is-damaged .ensures) ∙ c .before .if1 .taken))
+    (c .refused .ensures, refl)
 
 -- the push ended without damage
 fine : (c : tie.Else1) → isDamage (c .before .before .before .args .p .stage) ≡ false
@@ -39,11 +38,11 @@ same-length : tie.Need-same-length
 same-length c = search needs
 
 returns-2 : tie.Need-returns-2
-unfolding outcomeWhere
 returns-2 c =
-    let full = eq-eqb _ _ (c .before .if2 .taken ∙ c .before .before .before .capacity .ensures) in
-    let unbroken = fine (c .before .before .before .before .before) in
-    (simp (unbroken, full, c .refused2 .ensures), simp (unbroken, full))
+    let e = c .before .before .before .before .before in
+    let a = e .before .before .before .args in
+    rw (on-full (a .self) (a .table .now) (a .word) (a .from) (a .bits) (a .p) (fine e) (c .before .if2 .taken ∙ c .before .before .before .capacity .ensures))
+    (c .refused2 .ensures, refl)
 
 -- and there is room
 room : (c : tie.Else2) → let a = c .before .before .before .before .before .before .before .args in a .self .count ≡ capacity (a .table .now) → ⊥
@@ -74,13 +73,12 @@ same-length-2 : tie.Need-same-length-2
 same-length-2 c = search needs
 
 returns-3 : tie.Need-returns-3
-unfolding outcomeWhere
 returns-3 c =
-    let unbroken = fine (c .before .before .before .before .before .before .before .before .before .before .before) in
-    let not-full = ne-eqb _ _ (room (c .before .before .before .before .before .before .before)) in (
-      simp (unbroken, not-full, c .answered .ensures, c .before .rows .ensures, add-one),
-      simp (unbroken, not-full, c .before .before .before .before .before .grow .ensures),
-    )
+    let full = c .before .before .before .before .before .before .before in
+    let e = full .before .before .before .before in
+    let a = e .before .before .before .args in
+    rw (on-done (a .self) (a .table .now) (a .word) (a .from) (a .bits) (a .p) (fine e) (room full))
+    (rw (c .answered .ensures, c .before .rows .ensures, add-one), c .before .before .before .before .before .grow .ensures)
 
 pub added-where-spec : {M : Type 1} → statement M
 added-where-spec =

@@ -1,14 +1,11 @@
 -- The right child, if a row is remembered.
-use Prim.Native.Nat.{ℕ, suc, _≤_, _<_}
-use mathlib.Core.Path.{_≡_, refl, sym, _∙_}
+use mathlib.Core.Path.{_≡_, sym}
 use mathlib.Core.Bool.{true, false}
-use native.Mathlib.Nat.{le-trans, le-of-lt, lt-of-lt-of-le}
-use native.Mathlib.Omega.{arith}
+use native.Mathlib.Nat.{le-of-lt, lt-of-lt-of-le}
 use borrow.Author.Tests.{not-true, not-false}
 use Rattle.ordered.specs.Word.{right}
 use Rattle.ordered.specs.Way.{staying}
 use Rattle.pretree.specs.Table.{rowAt}
-use Rattle.pretree.specs.Found.{aside-from}
 use Rattle.pretree.specs.Walk.{partStart, Fell}
 use Rattle.pretree.proofs.Checks.{RightHeader, right-header}
 use Rattle.pretree.proofs.Walking.{part-begun}
@@ -76,7 +73,7 @@ returns-2 c =
     let fell : Fell (rowAt (a .table .now)) staying (partStart (a .self .count) (rowAt (a .table .now) (a .aside)) right (a .beneath)) (q .stayed .result)
     = rw (q .before .part-of .ensures, q .before .before .row-at .ensures) at (q .stayed .ensures) in
     let gone = then-at (a .self) (a .table .now) (a .rows) (a .beneath) (a .aside) right staying (q .stayed .result) fell in
-    rw remembered (c .word-on .ensures ∙ sym gone)
+    rw (remembered, c .word-on .ensures) (sym gone)
 
 pub aside-at-spec : {M : Type 1} → statement M
 aside-at-spec =

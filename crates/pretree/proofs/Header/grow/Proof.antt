@@ -1,8 +1,7 @@
 -- The push, the link and the row, one after the other.
-use mathlib.Core.Path.{_∙_}
 use native.Mathlib.Omega.{arith}
 use borrow.Author.Tests.{ltb-true}
-use Rattle.pretree.specs.Push.{grownAt}
+use Rattle.pretree.proofs.Adding.{writes-grow}
 use Rattle.pretree.proofs.Writing.{same-capacity}
 use borrow.Author.Needs.{needs}
 use Rattle.pretree.proofs.Header.grow.Statement.{statement}
@@ -28,9 +27,12 @@ same-length : tie.Need-same-length
 same-length c = search needs
 
 returns : tie.Need-returns
-unfolding grownAt
 returns c =
-    c .before .before .put-row .ensures ∙ rw (c .before .before .before .before .before .before .hook .ensures, c .before .before .before .before .before .before .before .before .before .before .before .before .push .ensures .0, c .before .before .before .before .before .before .before .before .before .before .before .before .push .ensures .1)
+    let put = c .before .before in
+    let hook = put .before .before .before .before in
+    let push = hook .before .before .before .before .before .before in
+    let a = push .before .before .before .args in
+    writes-grow (a .self) (a .table .now) (a .word) (a .from) (a .bits) (a .p) (push .push .ensures .0) (push .push .ensures .1) (hook .hook .ensures) (put .put-row .ensures)
 
 pub grow-spec : {M : Type 1} → statement M
 grow-spec = tie.close (tie.spec push-requires hook-requires put-row-requires same-length returns)

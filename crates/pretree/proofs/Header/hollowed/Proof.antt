@@ -2,7 +2,12 @@
 use mathlib.Core.Path.{_≡_, refl, sym, _∙_}
 use mathlib.Core.Bool.{true, false}
 use native.Mathlib.Nat.{le-trans}
+use Rattle.ordered.specs.Word.{left}
+use Rattle.ordered.specs.Way.{down}
+use Rattle.pretree.specs.Table.{rowAt}
+use Rattle.pretree.specs.Walk.{Fell}
 use Rattle.pretree.specs.Resume.{isDamage}
+use Rattle.pretree.specs.Erased.{restarted}
 use Rattle.pretree.proofs.Checks.{right-header}
 use Rattle.pretree.proofs.Erasing.{begun, some-rows, broken-below, hollow, within, on-damage}
 use borrow.Author.Needs.{needs}
@@ -18,6 +23,10 @@ fallen-requires c κs =
     let a = start .args in
     rw (c .restarted .ensures) (begun (a .self) (a .table .now) (start .pre .0) (a .word) (a .w) (start .pre .1 .1 .0) (start .pre .1 .1 .1))
 
+-- the walk went down from the row at which the way ended
+fell : (c : tie.After-fallen) → let a = c .before .before .before .before .args in Fell (rowAt (a .table .now)) (down left) (restarted (a .w)) (c .fallen .result)
+fell c = rw (c .before .restarted .ensures) at (c .fallen .ensures)
+
 is-damaged-requires : tie.Need-is-damaged-requires
 is-damaged-requires c κs = search needs
 
@@ -32,16 +41,13 @@ returns c =
     let start = c .before .before .before .before .before .before .before in
     let a = start .args in
     let s = c .before .before .before .fallen in
-    let fell = rw (c .before .before .before .before .restarted .ensures) at (s .ensures) in
-    let broken = broken-below (a .self) (a .table .now) (start .pre .0) (a .word) (a .w) (start .pre .1 .1 .0) (start .pre .1 .1 .1) (s .result) fell in
+    let broken = broken-below (a .self) (a .table .now) (start .pre .0) (a .word) (a .w) (start .pre .1 .1 .0) (start .pre .1 .1 .1) (s .result) (fell (c .before .before .before)) in
     let damaged : isDamage (s .result .stage) ≡ true = sym (c .before .before .is-damaged .ensures) ∙ c .before .if1 .taken in
     let outcome = on-damage (a .self) (a .table .now) (a .word) (start .pre .0) (start .pre .1 .0) (broken ∙ damaged) in
     rw outcome (c .refused .ensures, refl)
 
 sub-t12 : tie.Need-sub-t12
-sub-t12 c =
-    let fell = rw (c .before .before .before .before .before .restarted .ensures) at (c .before .before .before .before .fallen .ensures) in
-    fell .walked .walking .fits
+sub-t12 c = fell (c .before .before .before .before) .walked .walking .fits
 
 hook-of-requires : tie.Need-hook-of-requires
 hook-of-requires c κs = search needs
@@ -50,16 +56,14 @@ rows-requires : tie.Need-rows-requires
 rows-requires c κs =
     let start = c .before .before .before .before .before .before .before .before .before in
     let a = start .args in
-    let s = c .before .before .before .before .before .fallen in
-    let fell = rw (c .before .before .before .before .before .before .restarted .ensures) at (s .ensures) in
-    (le-trans (fell .walked .walking .fits) (start .pre .1 .1 .0 .walking .fits), right-header (a .self) (a .table .now) (start .pre .0) .at-most-32)
+    (le-trans (fell (c .before .before .before .before .before) .walked .walking .fits) (start .pre .1 .1 .0 .walking .fits), right-header (a .self) (a .table .now) (start .pre .0) .at-most-32)
 
 filled-requires : tie.Need-filled-requires
 filled-requires c κs =
     let start = c .before .before .before .before .before .before .before .before .before .before .before in
     let a = start .args in
     let s = c .before .before .before .before .before .before .before .fallen in
-    let fell = rw (c .before .before .before .before .before .before .before .before .restarted .ensures) at (s .ensures) in
+    let gone = fell (c .before .before .before .before .before .before .before) in
     let walked = start .pre .1 .1 .0 in
     let there = start .pre .1 .1 .1 in
     let whole : isDamage (s .result .stage) ≡ false = sym (c .before .before .before .before .before .before .is-damaged .ensures) ∙ c .before .before .before .before .before .if1 .left in
@@ -70,8 +74,8 @@ filled-requires c κs =
         (
           some-rows (a .self) (a .table .now) (start .pre .0) (a .word) (a .w) walked there,
           (
-            hollow (a .self) (a .table .now) (start .pre .0) (a .word) (a .w) walked there (s .result) fell whole,
-            within (a .self) (a .table .now) (start .pre .0) (a .word) (a .w) walked there (s .result) fell whole,
+            hollow (a .self) (a .table .now) (start .pre .0) (a .word) (a .w) walked there (s .result) gone whole,
+            within (a .self) (a .table .now) (start .pre .0) (a .word) (a .w) walked there (s .result) gone whole,
           ),
         ),
       ),

@@ -1,15 +1,11 @@
 -- Each test of the code is one of the definition's, and what is written is the listing of the whole tree.
-use Prim.Native.Nat.{_≤_}
 use mathlib.Core.Path.{_≡_, sym, _∙_}
 use mathlib.Core.Bool.{true, false}
 use borrow.Author.Needs.{needs}
-use borrow.Author.Tests.{not-true, not-false, lt-ltb, le-ltb}
-use lib.ListN.{length}
-use Rattle.ordered.specs.Tree.{listing}
+use borrow.Author.Tests.{not-true, not-false}
 use Rattle.pretree.specs.Sound.{isSound}
 use Rattle.pretree.specs.Reply.{wrong-header}
-use Rattle.pretree.specs.Whole.{listReply, listBuffer}
-use Rattle.pretree.proofs.Parts.{none-shown, sound-listable, sound-listed}
+use Rattle.pretree.proofs.Parts.{sound-listable, lists-wrong, lists-damaged, lists-short, lists-none, lists-all}
 use Rattle.pretree.proofs.Header.list.Statement.{statement}
 use Rattle.pretree.proofs.Header.list.Tie as tie
 
@@ -27,10 +23,10 @@ refused-requires : tie.Need-refused-requires
 refused-requires c κs = search needs
 
 returns : tie.Need-returns
-unfolding listReply listBuffer
 returns c =
-    let wrong = sym (c .before .before .is-wrong .ensures) ∙ c .before .if1 .taken in
-    (simp (wrong, c .refused .ensures), simp wrong)
+    let a = c .before .before .before .before .before .args in
+    let l = lists-wrong (a .self) (a .table .now) (a .buffer .now) (sym (c .before .before .is-wrong .ensures) ∙ c .before .if1 .taken) in
+    (c .refused .ensures ∙ l .0, l .1)
 
 is-sound-requires : tie.Need-is-sound-requires
 is-sound-requires c κs = right-there c
@@ -39,11 +35,12 @@ refused-requires-2 : tie.Need-refused-requires-2
 refused-requires-2 c κs = search needs
 
 returns-2 : tie.Need-returns-2
-unfolding listReply listBuffer
 returns-2 c =
     let e = c .before .before in
+    let a = e .before .before .before .before .before .args in
     let damage = sym (e .is-sound .ensures) ∙ not-true (e .is-sound .result) (c .before .if2 .taken) in
-    (simp (right-there (e .before), damage, c .refused2 .ensures), simp (right-there (e .before), damage))
+    let l = lists-damaged (a .self) (a .table .now) (a .buffer .now) (right-there (e .before)) damage in
+    (c .refused2 .ensures ∙ l .0, l .1)
 
 cast-if3 : tie.Need-cast-if3
 cast-if3 c = search needs
@@ -52,24 +49,21 @@ refused-requires-3 : tie.Need-refused-requires-3
 refused-requires-3 c κs = search needs
 
 returns-3 : tie.Need-returns-3
-unfolding listReply listBuffer
 returns-3 c =
     let e = c .before .before in
-    let short = lt-ltb _ _ (c .before .if3 .taken) in
-    (simp (right-there (e .before .before), sound-there e, short, c .refused3 .ensures), simp (right-there (e .before .before), sound-there e, short))
+    let a = e .before .before .before .before .before .before .args in
+    let l = lists-short (a .self) (a .table .now) (a .buffer .now) (right-there (e .before .before)) (sound-there e) (c .before .if3 .taken) in
+    (c .refused3 .ensures ∙ l .0, l .1)
 
 done-requires : tie.Need-done-requires
 done-requires c κs = search needs
 
 returns-4 : tie.Need-returns-4
-unfolding listReply listBuffer listing
 returns-4 c =
     let e = c .before .before .before in
     let a = e .before .before .before .before .before .before .args in
-    let good = right-there (e .before .before) in
-    let room = le-ltb _ _ (c .before .before .if3 .left) in
-    let empty = c .before .if4 .taken in
-    (simp (good, sound-there e, room, c .done .ensures), simp (good, sound-there e, room) (rw (none-shown (a .self) (a .table .now) empty, empty)))
+    let l = lists-none (a .self) (a .table .now) (a .buffer .now) (right-there (e .before .before)) (sound-there e) (c .before .before .if3 .left) (c .before .if4 .taken) in
+    (c .done .ensures ∙ l .0, l .1)
 
 root-requires : tie.Need-root-requires
 root-requires c κs = search needs
@@ -88,18 +82,14 @@ same-length : tie.Need-same-length
 same-length c = search needs
 
 returns-5 : tie.Need-returns-5
-unfolding listReply listBuffer
 returns-5 c =
     let g = c .before .before .before in
     let d = g .before .before .before in
     let e = d .before .before in
     let a = e .before .before .before .before .before .before .args in
-    let good = right-there (e .before .before) in
-    let fits : a .self .count ≤ length (a .buffer .now) = d .before .if3 .left in
-    let room = le-ltb _ _ fits in
+    let l = lists-all (a .self) (a .table .now) (a .buffer .now) (right-there (e .before .before)) (sound-there e) (d .before .if3 .left) (d .if4 .left) in
     let written = rw (g .before .before .root .ensures) at (g .row-listed .ensures .1) in
-    let all = sound-listed (a .self) (a .table .now) (sound-there e) (a .buffer .now) fits (d .if4 .left) in
-    (simp (good, sound-there e, room, c .done2 .ensures), simp (good, sound-there e, room) (rw written all))
+    (c .done2 .ensures ∙ l .0, rw written (l .1))
 
 pub list-spec : {M : Type 1} → statement M
 list-spec =

@@ -24,11 +24,15 @@ returns c =
     let wrong : wrong-header (a .self) (a .table .now) ≡ true = sym (p .is-wrong .ensures) ∙ c .before .if1 .taken in
     simp (wrong, c .refused .ensures)
 
+-- the header is right
+fine : (c : tie.Else1) → let a = c .before .before .before .args in wrong-header (a .self) (a .table .now) ≡ false
+fine c = sym (c .before .is-wrong .ensures) ∙ c .if1 .left
+
 is-exceeded-by-requires : tie.Need-is-exceeded-by-requires
 is-exceeded-by-requires c κs =
     let p = c .before in
     let a = p .before .before .args in
-    right-header (a .self) (a .table .now) (sym (p .is-wrong .ensures) ∙ c .if1 .left) .at-most-32
+    right-header (a .self) (a .table .now) (fine c) .at-most-32
 
 refused-requires-2 : tie.Need-refused-requires-2
 refused-requires-2 c κs = search needs
@@ -38,30 +42,25 @@ unfolding prevReply
 returns-2 c =
     let p = c .before .before .before .before in
     let a = p .before .before .args in
-    let fine : wrong-header (a .self) (a .table .now) ≡ false = sym (p .is-wrong .ensures) ∙ c .before .before .before .if1 .left in
     let wide : too-wide (a .self) (a .word) ≡ true = sym (c .before .before .is-exceeded-by .ensures) ∙ c .before .if2 .taken in
-    simp (fine, wide, c .refused2 .ensures)
+    simp (fine (c .before .before .before), wide, c .refused2 .ensures)
 
 way-of-requires : tie.Need-way-of-requires
-way-of-requires c κs =
-    let p = c .before .before .before in
-    sym (p .is-wrong .ensures) ∙ c .before .before .if1 .left
+way-of-requires c κs = fine (c .before .before)
 
 rows-requires : tie.Need-rows-requires
 rows-requires c κs =
     let p = c .before .before .before .before in
     let a = p .before .before .args in
-    let fine : wrong-header (a .self) (a .table .now) ≡ false = sym (p .is-wrong .ensures) ∙ c .before .before .before .if1 .left in
-    (c .way-of .ensures .walking .fits, right-header (a .self) (a .table .now) fine .at-most-32)
+    (c .way-of .ensures .walking .fits, right-header (a .self) (a .table .now) (fine (c .before .before .before)) .at-most-32)
 
 prev-at-requires : tie.Need-prev-at-requires
 prev-at-requires c κs =
     let q = c .before in
     let p = q .before .before .before .before in
     let a = p .before .before .args in
-    let fine : wrong-header (a .self) (a .table .now) ≡ false = sym (p .is-wrong .ensures) ∙ q .before .before .before .if1 .left in
-    let few = few-rows (q .way-of .result) (a .self .width) (right-header (a .self) (a .table .now) fine .at-most-32) in (
-      record { fine = fine; few = rw (c .rows .ensures) few },
+    let few = few-rows (q .way-of .result) (a .self .width) (right-header (a .self) (a .table .now) (fine (q .before .before .before)) .at-most-32) in (
+      record { fine = fine (q .before .before .before); few = rw (c .rows .ensures) few },
       rw (q .way-of .ensures .walking .same-count) at (q .way-of .ensures .walking .memory .above-used),
     )
 
@@ -70,10 +69,9 @@ returns-3 c =
     let q = c .before .before in
     let p = q .before .before .before .before in
     let a = p .before .before .args in
-    let fine : wrong-header (a .self) (a .table .now) ≡ false = sym (p .is-wrong .ensures) ∙ q .before .before .before .if1 .left in
     let small : too-wide (a .self) (a .word) ≡ false = sym (q .before .before .is-exceeded-by .ensures) ∙ q .before .if2 .left in
-    let gone = prev-at (a .self) (a .table .now) (a .word) (q .way-of .result) fine small (q .way-of .ensures) in
-    c .prev-at .ensures ∙ rw (c .before .rows .ensures) (sym gone)
+    let gone = prev-at (a .self) (a .table .now) (a .word) (q .way-of .result) (fine (q .before .before .before)) small (q .way-of .ensures) in
+    rw (c .prev-at .ensures, c .before .rows .ensures) (sym gone)
 
 pub prev-spec : {M : Type 1} → statement M
 prev-spec =

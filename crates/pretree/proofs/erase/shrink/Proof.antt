@@ -1,7 +1,7 @@
 -- One write after the other, in a table of the same length.
 use borrow.Author.Needs.{needs}
 use mathlib.Core.Path.{_∙_}
-use Rattle.pretree.specs.Erased.{emptied}
+use Rattle.pretree.proofs.Erasing.{writes-empty}
 use Rattle.pretree.proofs.Writing.{same-capacity}
 use Rattle.pretree.proofs.erase.shrink.Statement.{statement}
 use Rattle.pretree.proofs.erase.shrink.Tie as tie
@@ -34,9 +34,13 @@ same-length : tie.Need-same-length
 same-length c = search needs
 
 returns : tie.Need-returns
-unfolding emptied
 returns c =
-    rw (c .before .before .put-row .ensures, c .before .before .before .before .before .before .fill .ensures, c .before .before .before .before .before .before .before .before .before .before .hook .ensures, c .before .before .before .before .before .before .before .before .before .before .before .before .before .before .raise .ensures)
+    let put = c .before .before in
+    let fill = put .before .before .before .before in
+    let hook = fill .before .before .before .before in
+    let raise = hook .before .before .before .before in
+    let a = raise .before .before .before .args in
+    writes-empty (a .last) (a .hole) (a .m) (a .table .now) (raise .raise .ensures) (hook .hook .ensures) (fill .fill .ensures) (put .put-row .ensures)
 
 pub shrink-spec : {M : Type 1} → statement M
 shrink-spec =

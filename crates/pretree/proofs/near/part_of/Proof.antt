@@ -1,10 +1,8 @@
 -- The path of a part is that of its row, which the row's key has, and one bit more.
-use Prim.Native.Nat.{ℕ, suc, _/_, _^_, _+_, _≤_}
-use mathlib.Core.Path.{_≡_}
-use native.Mathlib.Nat.{div-le-self, add-zero}
-use native.Mathlib.Numerals.{add-one}
+use Prim.Native.Nat.{_^_, _+_}
+use native.Mathlib.Nat.{div-le-self}
 use native.Mathlib.Omega.{arith}
-use Rattle.pretree.proofs.Tests.{goes-right}
+use Rattle.pretree.proofs.Walking.{starts-left, starts-right}
 use borrow.Author.Needs.{needs}
 use Rattle.pretree.proofs.near.part_of.Statement.{statement}
 use Rattle.pretree.proofs.near.part_of.Tie as tie
@@ -51,11 +49,13 @@ from-requires-2 c κs = search needs
 
 returns : tie.Need-returns
 returns c =
-    simp (c .before .if1 .taken, add-one, add-zero, c .from .ensures)
+    let a = c .before .before .args in
+    rw (c .from .ensures) (starts-left (a .count) (a .row) (a .side) (a .bits) (c .before .if1 .taken))
 
 returns-2 : tie.Need-returns-2
 returns-2 c =
-    simp (goes-right _ (c .before .if1 .left), add-one, c .from2 .ensures)
+    let a = c .before .before .args in
+    rw (c .from2 .ensures) (starts-right (a .count) (a .row) (a .side) (a .bits) (c .before .if1 .left))
 
 pub part-of-spec : {M : Type 1} → statement M
 part-of-spec =
