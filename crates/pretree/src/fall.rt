@@ -42,7 +42,7 @@ fn left_first(row: Row) -> Turn
 }
 
 // "down [..] by right link, else left link, until both are none": from where the walk is.
-pub fn fallen(table: &[u32], start: Walk, first: u32) -> Walk
+pub(crate) fn fallen(table: &[u32], start: Walk, first: u32) -> Walk
     requires { ⌜ Begun (now table) start ⌝ }
     ensures { λ r. ⌜ Fell (rowAt (now (table .entry))) (down (sideOf first)) start r ⌝ }
 {

@@ -13,7 +13,7 @@ ghost use Rattle.pretree.specs.Reply.{wrong-header};
 ghost use Rattle.pretree.specs.Walk.{seekTurn, seeking, Walked};
 
 // "follow k's bits; stop [..] at the first row whose key is k or more"
-pub fn seek_turn(word: u32, limit: u64, key: u32, bits: u32) -> Turn
+pub(crate) fn seek_turn(word: u32, limit: u64, key: u32, bits: u32) -> Turn
     requires { ⌜ bits ≤ 32 ⌝ }
     ensures { λ r. ⌜ r ≡ seekTurn limit word key bits ⌝ }
 {
@@ -31,7 +31,7 @@ pub fn seek_turn(word: u32, limit: u64, key: u32, bits: u32) -> Turn
 }
 
 // The way of a word from the root, up to the limit.
-pub fn way_of(table: &[u32], h: Header, word: u32, limit: u64) -> Walk
+pub(crate) fn way_of(table: &[u32], h: Header, word: u32, limit: u64) -> Walk
     requires { ⌜ wrong-header h (now table) ≡ false ⌝ }
     ensures { λ r. ⌜ Walked (rowAt (now (table .entry))) (seeking limit word) (h .width) (h .count) (shown h (now (table .entry))) r ⌝ }
 {

@@ -37,7 +37,7 @@ fn between(word: u32, key: u32) -> u32
 }
 
 impl Skim {
-    pub fn start(width: u32, word: u32) -> Skim
+    pub(crate) fn start(width: u32, word: u32) -> Skim
         requires { ⌜ width ≤ 32 ⌝ }
         ensures { λ r. ⌜ r ≡ begun width word ⌝ }
     {
@@ -51,7 +51,7 @@ impl Skim {
     }
 
     // The way passes the row with that key.
-    pub fn passes(self, word: u32, key: u32) -> bool
+    pub(crate) fn passes(self, word: u32, key: u32) -> bool
         requires { ⌜ self .near ≤ word ⌝ }
         ensures { λ r. ⌜ r ≡ passes self word key ⌝ }
     {
@@ -63,13 +63,13 @@ impl Skim {
     }
 
     // The side to which the word's next bit turns it: 0 is left, 1 is right.
-    pub fn turn(self) -> usize
+    pub(crate) fn turn(self) -> usize
         ensures { λ r. ⌜ r ≡ turn self ⌝ }
     {
         if self.mask / 2 < self.rest { 1 } else { 0 }
     }
 
-    pub fn passed(self, word: u32, key: u32, link: u32) -> Skim
+    pub(crate) fn passed(self, word: u32, key: u32, link: u32) -> Skim
         requires { ⌜ key < word ⌝ }
         ensures { λ r. ⌜ r ≡ passed self word key link ⌝ }
     {
@@ -82,14 +82,14 @@ impl Skim {
         }
     }
 
-    pub fn bits(self) -> u32
+    pub(crate) fn bits(self) -> u32
         ensures { λ r. ⌜ r ≡ bitsLeft (self .mask) ⌝ }
     {
         32 - u32::leading_zeros(self.mask)
     }
 
     // Where the way ends, at the row that it does not pass. A link of 0 led to the root, whose key is less than the word.
-    pub fn end(self, word: u32, row: Row) -> Stage
+    pub(crate) fn end(self, word: u32, row: Row) -> Stage
         requires { ⌜ self .rest ≤ self .mask ⌝ }
         ensures { λ r. ⌜ r ≡ endOf self word row ⌝ }
     {
@@ -123,7 +123,7 @@ impl Skim {
 }
 
 // The way of the word, as far as it passes rows.
-pub fn skimmed(table: &[u32], h: Header, word: u32) -> Skim
+pub(crate) fn skimmed(table: &[u32], h: Header, word: u32) -> Skim
     requires header { ⌜ wrong-header h (now table) ≡ false ⌝ }
     requires width { ⌜ too-wide h word ≡ false ⌝ }
     requires some { ⌜ 0 < h .count ⌝ }

@@ -10,7 +10,7 @@ ghost use Rattle.pretree.specs.Table.{capacity, rowAt, link};
 ghost use Rattle.pretree.specs.Reply.{wrong-header, too-wide};
 
 // "Row i begins at table word 3i."
-pub fn row_at(table: &[u32], i: u32) -> Row
+pub(crate) fn row_at(table: &[u32], i: u32) -> Row
     requires { ⌜ i < capacity (now table) ⌝ }
     ensures { λ r. ⌜ r ≡ rowAt (now (table .entry)) i ⌝ }
 {
@@ -23,7 +23,7 @@ pub fn row_at(table: &[u32], i: u32) -> Row
 }
 
 // The link of row i on one side: 0 is left, 1 is right.
-pub fn link_at(table: &[u32], i: u32, side: u64) -> u32
+pub(crate) fn link_at(table: &[u32], i: u32, side: u64) -> u32
     requires { ⌜ (i < capacity (now table)) × (side < 2) ⌝ }
     ensures { λ r. ⌜ r ≡ link (rowAt (now (table .entry)) i) (sideOf side) ⌝ }
 {
@@ -32,7 +32,7 @@ pub fn link_at(table: &[u32], i: u32, side: u64) -> u32
 }
 
 // "Capacity is the table's length divided by 3, rounded down, and at most 65,535."
-pub fn capacity(table: &[u32]) -> u32
+pub(crate) fn capacity(table: &[u32]) -> u32
     ensures { λ r. ⌜ r ≡ capacity (now (table .entry)) ⌝ }
 {
     let whole = table.len() / Header::ROW;

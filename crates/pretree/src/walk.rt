@@ -43,7 +43,7 @@ pub struct Walk {
 
 impl Walk {
     // "The root is row 0 whenever the count is not 0"; "with a count of 0 every way is empty".
-    pub fn start(h: Header) -> Walk
+    pub(crate) fn start(h: Header) -> Walk
         ensures { λ r. ⌜ r ≡ started h ⌝ }
     {
         let stage = if h.count == 0 {
@@ -67,7 +67,7 @@ impl Walk {
     }
 
     // A walk that begins at a link, with so many bits left there.
-    pub fn from(count: u32, link: u32, bits: u32, path: u64, low: u64) -> Walk
+    pub(crate) fn from(count: u32, link: u32, bits: u32, path: u64, low: u64) -> Walk
         ensures { λ r. ⌜ r ≡ startedAt count link bits path low ⌝ }
     {
         let stage = stage_at(count, link);
@@ -86,7 +86,7 @@ impl Walk {
         }
     }
 
-    pub fn is_on(self) -> bool
+    pub(crate) fn is_on(self) -> bool
         ensures { λ r. ⌜ r ≡ isOn (self .stage) ⌝ }
     {
         let stage = self.stage;
@@ -99,7 +99,7 @@ impl Walk {
     }
 
     // The rows that it has read, from a root with so many bits left.
-    pub fn rows(self, width: u32) -> u32
+    pub(crate) fn rows(self, width: u32) -> u32
         requires { ⌜ (self .bits ≤ width) × (width ≤ 32) ⌝ }
         ensures { λ r. ⌜ r ≡ rowsRead self width ⌝ }
     {
@@ -203,7 +203,7 @@ impl Walk {
     }
 
     // The walk after the row that it wanted.
-    pub fn met(self, row: Row, turn: Turn) -> Walk
+    pub(crate) fn met(self, row: Row, turn: Turn) -> Walk
         requires { ⌜ self .bits ≤ 32 ⌝ }
         ensures { λ r. ⌜ r ≡ met self row turn ⌝ }
     {
@@ -218,7 +218,7 @@ impl Walk {
     }
 
     // It ended at damage.
-    pub fn is_damaged(self) -> bool
+    pub(crate) fn is_damaged(self) -> bool
         ensures { λ r. ⌜ r ≡ isDamage (self .stage) ⌝ }
     {
         let stage = self.stage;
@@ -231,7 +231,7 @@ impl Walk {
     }
 
     // It ended at the row of that word.
-    pub fn ends_at(self, word: u32) -> bool
+    pub(crate) fn ends_at(self, word: u32) -> bool
         ensures { λ r. ⌜ r ≡ endsAt word (self .key) (self .stage) ⌝ }
     {
         let stage = self.stage;
@@ -244,7 +244,7 @@ impl Walk {
     }
 
     // Where it ended at a row, it wants that row again, to go on from there by another rule.
-    pub fn resumed(self) -> Walk
+    pub(crate) fn resumed(self) -> Walk
         ensures { λ r. ⌜ r ≡ resumed self ⌝ }
     {
         let key = self.key;

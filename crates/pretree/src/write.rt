@@ -10,7 +10,7 @@ ghost use Rattle.ordered.specs.Word.{sideOf};
 ghost use Rattle.pretree.specs.Table.{capacity, withKey, withLink, withRow, hooked};
 
 // Row i takes an entry, all of it at once.
-pub fn put_entry(table: &mut [u32], i: u32, entry: Entry)
+pub(crate) fn put_entry(table: &mut [u32], i: u32, entry: Entry)
     requires { ⌜ i < capacity (now table) ⌝ }
     ensures { λ _. ⌜ now (table .exit) ≡ withKey i (entry .key) (now (table .entry)) ⌝ }
 {
@@ -19,7 +19,7 @@ pub fn put_entry(table: &mut [u32], i: u32, entry: Entry)
 }
 
 // The link of row i on one side: 0 is left, 1 is right.
-pub fn put_link(table: &mut [u32], i: u32, side: u64, link: u32)
+pub(crate) fn put_link(table: &mut [u32], i: u32, side: u64, link: u32)
     requires { ⌜ (i < capacity (now table)) × (side < 2) ⌝ }
     ensures { λ _. ⌜ now (table .exit) ≡ withLink i (sideOf side) link (now (table .entry)) ⌝ }
 {
@@ -28,7 +28,7 @@ pub fn put_link(table: &mut [u32], i: u32, side: u64, link: u32)
 }
 
 // The same of the row where a way passed last, if it passed any.
-pub fn hook(table: &mut [u32], any: bool, i: u32, side: u64, link: u32)
+pub(crate) fn hook(table: &mut [u32], any: bool, i: u32, side: u64, link: u32)
     requires row { ⌜ (any ≡ true → i < capacity (now table)) ⌝ }
     requires side { ⌜ side < 2 ⌝ }
     ensures { λ _. ⌜ now (table .exit) ≡ hooked any i (sideOf side) link (now (table .entry)) ⌝ }
@@ -38,7 +38,7 @@ pub fn hook(table: &mut [u32], any: bool, i: u32, side: u64, link: u32)
     }
 }
 
-pub fn put_row(table: &mut [u32], i: u32, row: Row)
+pub(crate) fn put_row(table: &mut [u32], i: u32, row: Row)
     requires { ⌜ i < capacity (now table) ⌝ }
     ensures { λ _. ⌜ now (table .exit) ≡ withRow i row (now (table .entry)) ⌝ }
 {
