@@ -6,7 +6,7 @@ use mathlib.Core.List.{List, [], _∷_}
 use native.Mathlib.Nat.{add-zero, sub-self, le-trans, mod-lt}
 use native.Mathlib.Omega.{arith}
 use lib.Pow.{pow-pos}
-use borrow.Author.Tests.{le-ltb, ne-eqb}
+use borrow.Author.Tests.{lt-ltb, le-ltb, ne-eqb}
 use lib.Dec.{eqb}
 use Rattle.ordered.specs.Such.{if_then_else_, such, no-such, only-if}
 use Rattle.ordered.specs.Way.{broken, isDamaged}
@@ -107,13 +107,16 @@ module _ (h : Header) (table : List ℕ) (k : ℕ) (fine : wrong-header h table 
             found-by h k (rowAt table i .entry .key) (h .width - bitsLeft (s .mask) + endRead (endOf s k (rowAt table i))) (endOf s k (rowAt table i))
             ≡ hasReply h table k
 
+        not-passed : passes s k (rowAt table (s .row) .entry .key) ≡ false
+        not-passed = rw (lt-ltb (s .row) (h .count) used) at (g .stopped)
+
         used-there : w .row < h .count
         used-there = rw (← shows .row) used
 
         there : Ends (rowAt table) k s w shows (h .width) (h .count) (shown h table) (g .skimming .walking) used-there (endOf s k (rowAt table (w .row)))
         there =
             ends-so (rowAt table) k s w shows (h .width) (h .count) (shown h table) (g .skimming .walking) used-there
-            (subst (λ (i : ℕ). passes s k (rowAt table i .entry .key) ≡ false) (shows .row) (g .stopped used))
+            (subst (λ (i : ℕ). passes s k (rowAt table i .entry .key) ≡ false) (shows .row) not-passed)
 
         same-key : (x y n : ℕ) (stage : Stage) → (stage ≡ AtRow → x ≡ y) → found-by h k x n stage ≡ found-by h k y n stage
         same-key x y n On e = refl

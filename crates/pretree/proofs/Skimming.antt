@@ -22,7 +22,7 @@ use Rattle.pretree.specs.declared.walk.Walk.{Walk}
 use Rattle.pretree.specs.Table.{rowAt, link}
 use Rattle.pretree.specs.Unfold.{ends-there, shown}
 use Rattle.pretree.specs.Walk.{started, isOn, holds, ended, remembering, passed, turned, stageAt, met, toward, seeking, seekTurn, Walking, Walked}
-use Rattle.pretree.specs.Skim.{begun, passes, turn, endOf, Shows, Skimming}
+use Rattle.pretree.specs.Skim.{begun, passes, goesOn, gone, turn, endOf, Shows, Skimming}
 use Rattle.pretree.specs.Skim as Skims
 use Rattle.pretree.proofs.Between.{below-in, below-few, above-in, above-near, half-mask, turns-so, next-rest}
 use Rattle.pretree.proofs.Walking.{keeps, begins-root}
@@ -321,23 +321,32 @@ module _ (table : List ℕ) (h : Header) (k : ℕ) where
             };
       }
 
-  module _ (s : Skim) (g : Goes s) (used : s .row < h .count) (p : Passes s k (rowAt table (s .row) .entry .key)) where
+  module _ (s : Skim) (g : Goes s) (on : goesOn (rowAt table) (h .count) k s ≡ true) where
     abbrev w : Walk
     w = g .walk
+
+    abbrev key-here : ℕ
+    key-here = rowAt table (s .row) .entry .key
+
+    pub used : s .row < h .count
+    used = ltb-true _ _ (both (ltb (s .row) (h .count)) _ on .0)
+
+    pub passing : Passes s k key-here
+    passing = passes-so s k key-here (both (ltb (s .row) (h .count)) _ on .1)
 
     used-there : w .row < h .count
     used-there = rw (← g .shows .row) used
 
-    passes-there : Passes s k (rowAt table (w .row) .entry .key)
-    passes-there = rw (← g .shows .row) p
+    passing-there : Passes s k (rowAt table (w .row) .entry .key)
+    passing-there = rw (← g .shows .row) passing
 
-    pub goes-on : Goes (Skims.passed s k (rowAt table (s .row) .entry .key) (link (rowAt table (s .row)) (sideOf (turn s))))
-    goes-on =
-        let on = passes-on (rowAt table) k s w (g .shows) (h .width) (h .count) (shown h table) (g .walking) used-there passes-there in
-        rw (g .shows .row) (record { walk = on-walk (rowAt table) k s w (g .shows); walking = on .0; shows = on .1 })
+    pub goes-further : Goes (gone (rowAt table) k s)
+    goes-further =
+        let on-there = passes-on (rowAt table) k s w (g .shows) (h .width) (h .count) (shown h table) (g .walking) used-there passing-there in
+        rw (g .shows .row) (record { walk = on-walk (rowAt table) k s w (g .shows); walking = on-there .0; shows = on-there .1 })
 
     -- the mask falls
     pub halves : s .mask / 2 < s .mask
     halves =
         let some : k % 2 ^ w .bits < 2 ^ w .bits = mod-lt k (pow-pos (w .bits)) in
-        omega (arith, p .in-rest, g .shows .rest, g .shows .mask)
+        omega (arith, passing .in-rest, g .shows .rest, g .shows .mask)

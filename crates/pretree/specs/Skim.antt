@@ -6,6 +6,7 @@ use lib.Bits.{bitAnd}
 use lib.Count.{leadingZeros}
 use lib.Dec.{ltb, eqb}
 use Rattle.ordered.specs.Such.{if_then_else_}
+use Rattle.ordered.specs.Word.{sideOf}
 use Rattle.ordered.specs.Tree.{Tree}
 use Rattle.pretree.specs.declared.Header.{Header}
 use Rattle.pretree.specs.declared.Row.{Row}
@@ -13,6 +14,7 @@ use Rattle.pretree.specs.declared.skim.Skim.{Skim}
 use Rattle.pretree.specs.declared.walk.Stage.{Stage}
 use Rattle.pretree.specs.declared.walk.Stage.the-variants.{On, AtNone, AtRow, AtDamage}
 use Rattle.pretree.specs.declared.walk.Walk.{Walk}
+use Rattle.pretree.specs.Table.{link}
 use Rattle.pretree.specs.Walk.{stageAt, seeking, Walking}
 
 abbrev pub begun : ℕ → ℕ → Skim
@@ -27,6 +29,14 @@ turn s = if ltb (s .mask / 2) (s .rest) then 1 else 0
 
 abbrev pub passed : Skim → ℕ → ℕ → ℕ → Skim
 passed s k key l = record { row = l; mask = s .mask / 2; rest = bitAnd (s .rest) (s .mask / 2); near = k - 1 - key }
+
+-- whether the row that it wants is in use and is passed
+abbrev pub goesOn : (ℕ → Row) → ℕ → ℕ → Skim → Bool
+goesOn rows count k s = ltb (s .row) count && passes s k (rows (s .row) .entry .key)
+
+-- past that row, by the link to the side that it turns
+abbrev pub gone : (ℕ → Row) → ℕ → Skim → Skim
+gone rows k s = passed s k (rows (s .row) .entry .key) (link (rows (s .row)) (sideOf (turn s)))
 
 abbrev pub bitsLeft : ℕ → ℕ
 bitsLeft mask = 32 - leadingZeros 32 mask
@@ -60,4 +70,4 @@ pub record Skimming (rows : ℕ → Row) (h : Header) (tree : Tree) (k : ℕ) (s
 -- and the skim goes no further: the link leads past the rows in use, or its row is not passed
 pub record Skimmed (rows : ℕ → Row) (h : Header) (tree : Tree) (k : ℕ) (s : Skim) : Type 0 where
   pub skimming : Skimming rows h tree k s
-  pub stopped : s .row < h .count → passes s k (rows (s .row) .entry .key) ≡ false
+  pub stopped : goesOn rows (h .count) k s ≡ false

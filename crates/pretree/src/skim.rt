@@ -8,10 +8,10 @@ use crate::walk::Stage;
 ghost use mathlib.Core.Path.{_≡_};
 ghost use mathlib.Core.Bool.{false};
 ghost use Prim.Native.Nat.{suc, _+_, _≤_, _<_};
-ghost use Rattle.pretree.specs.Table.{rowAt};
+ghost use Rattle.pretree.specs.Table.{capacity, rowAt};
 ghost use Rattle.pretree.specs.Unfold.{shown};
 ghost use Rattle.pretree.specs.Reply.{wrong-header, too-wide};
-ghost use Rattle.pretree.specs.Skim.{begun, passes, turn, passed, bitsLeft, endOf, Skimmed};
+ghost use Rattle.pretree.specs.Skim.{begun, passes, turn, passed, goesOn, gone, bitsLeft, endOf, Skimmed};
 
 pub struct Skim {
     // the row that it wants
@@ -122,6 +122,33 @@ impl Skim {
     }
 }
 
+// The row that the skim wants is in use, and the way passes it.
+fn goes_on(table: &[u32], count: u32, word: u32, s: Skim) -> bool
+    requires room { ⌜ count ≤ capacity (now table) ⌝ }
+    requires near { ⌜ s .near ≤ word ⌝ }
+    ensures { λ r. ⌜ r ≡ goesOn (rowAt (now (table .entry))) count word s ⌝ }
+{
+    if count as usize <= s.row {
+        return false;
+    }
+    let at = Header::ROW * s.row;
+    let key = table[at];
+    s.passes(word, key)
+}
+
+// The skim past that row.
+fn gone(table: &[u32], word: u32, s: Skim) -> Skim
+    requires used { ⌜ s .row < capacity (now table) ⌝ }
+    requires less { ⌜ rowAt (now table) (s .row) .entry .key < word ⌝ }
+    ensures { λ r. ⌜ r ≡ gone (rowAt (now (table .entry))) word s ⌝ }
+{
+    let at = Header::ROW * s.row;
+    let side = s.turn();
+    let link = table[at + 1 + side];
+    let key = table[at];
+    s.passed(word, key, link)
+}
+
 // The way of the word, as far as it passes rows.
 pub(crate) fn skimmed(table: &[u32], h: Header, word: u32) -> Skim
     requires header { ⌜ wrong-header h (now table) ≡ false ⌝ }
@@ -130,16 +157,9 @@ pub(crate) fn skimmed(table: &[u32], h: Header, word: u32) -> Skim
     ensures { λ r. ⌜ Skimmed (rowAt (now (table .entry))) h (shown h (now (table .entry))) word r ⌝ }
 {
     let mut s = Skim::start(h.width, word);
-    let count = h.count as usize;
-    while s.row < count {
-        let at = Header::ROW * s.row;
-        let key = table[at];
-        if !s.passes(word, key) {
-            return s;
-        }
-        let side = s.turn();
-        let link = table[at + 1 + side];
-        s = s.passed(word, key, link);
+    let count = h.count;
+    while goes_on(table, count, word, s) {
+        s = gone(table, word, s);
     }
     s
 }
