@@ -1,7 +1,7 @@
 -- What the reading calls answer where their walks ended: the contracts of the small functions that turn a walk's end into a reply.
 use Prim.Native.Nat.{ℕ, suc, _+_, _%_, _≤_, _<_}
 use mathlib.Core.Path.{_≡_}
-use mathlib.Core.Bool.{Bool, true, false, not, _&&_}
+use mathlib.Core.Bool.{Bool, true, false, not, _&&_, _||_}
 use mathlib.Core.List.{List}
 use lib.Dec.{ltb, eqb}
 use Rattle.ordered.specs.Such.{if_then_else_}
@@ -9,14 +9,21 @@ use Rattle.ordered.specs.Word.{left, right, sideOf, isSide}
 use Rattle.ordered.specs.Way.{Way, way, rows, broken, staying, down}
 use Rattle.ordered.specs.Reading.{keyAt}
 use Rattle.pretree.specs.declared.Header.{Header}
-use Rattle.pretree.specs.declared.Answer.the-variants.{Done, Word, Damage, NoSuchWord}
+use Rattle.pretree.specs.declared.Answer.the-variants.{Done, Word, WrongHeader, WordTooWide, Damage, NoSuchWord}
 use Rattle.pretree.specs.declared.Reply.{Reply}
 use Rattle.pretree.specs.declared.Row.{Row}
 use Rattle.pretree.specs.declared.walk.Stage.{Stage}
 use Rattle.pretree.specs.declared.walk.Stage.the-variants.{On, AtNone, AtRow, AtDamage}
-use Rattle.pretree.specs.Reply.{wrong-header, refused, answered}
+use Rattle.pretree.specs.Reply.{wrong-header, too-wide, refused, answered}
 use Rattle.pretree.specs.Find.{saying}
 use Rattle.pretree.specs.Walk.{below}
+
+-- a call on the word k is refused for its header or for the word, and by the first of the two numbers that it is refused for
+abbrev pub refuses : Header → List ℕ → ℕ → Bool
+refuses h table k = wrong-header h table || too-wide h k
+
+abbrev pub refusal : Header → List ℕ → Reply
+refusal h table = if wrong-header h table then refused h WrongHeader else refused h WordTooWide
 
 -- `has` of k, at a row with that key, after so many rows
 abbrev pub found-by : Header → ℕ → ℕ → ℕ → Stage → Reply

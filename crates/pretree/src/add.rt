@@ -32,11 +32,8 @@ impl Header {
         ensures { λ r. ⌜ r ≡ addOutcome self (now (table .entry)) word .reply ⌝ }
         ensures { λ _. ⌜ now (table .exit) ≡ addOutcome self (now (table .entry)) word .table ⌝ }
     {
-        if self.is_wrong(table) {
-            return self.refused(Answer::WrongHeader);
-        }
-        if self.is_exceeded_by(word) {
-            return self.refused(Answer::WordTooWide);
+        if self.refuses(table, word) {
+            return self.refusal(table);
         }
         self.added(table, word)
     }

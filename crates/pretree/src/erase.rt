@@ -57,11 +57,8 @@ impl Header {
         ensures reply { λ r. ⌜ r ≡ delOutcome self (now (table .entry)) word .reply ⌝ }
         ensures table { λ r. ⌜ now (table .exit) ≡ delOutcome self (now (table .entry)) word .table ⌝ }
     {
-        if self.is_wrong(table) {
-            return self.refused(Answer::WrongHeader);
-        }
-        if self.is_exceeded_by(word) {
-            return self.refused(Answer::WordTooWide);
+        if self.refuses(table, word) {
+            return self.refusal(table);
         }
         self.erased(table, word)
     }

@@ -43,11 +43,8 @@ impl Header {
     pub fn has(self, table: &[u32], word: u32) -> Reply
         ensures { λ r. ⌜ r ≡ hasReply self (now (table .entry)) word ⌝ }
     {
-        if self.is_wrong(table) {
-            return self.refused(Answer::WrongHeader);
-        }
-        if self.is_exceeded_by(word) {
-            return self.refused(Answer::WordTooWide);
+        if self.refuses(table, word) {
+            return self.refusal(table);
         }
         self.found(table, word)
     }

@@ -54,11 +54,8 @@ impl Header {
     pub fn gap(self, table: &[u32], word: u32) -> Reply
         ensures { λ r. ⌜ r ≡ gapReply self (now (table .entry)) word ⌝ }
     {
-        if self.is_wrong(table) {
-            return self.refused(Answer::WrongHeader);
-        }
-        if self.is_exceeded_by(word) {
-            return self.refused(Answer::WordTooWide);
+        if self.refuses(table, word) {
+            return self.refusal(table);
         }
         let w = way_of(table, self, word, word as u64);
         let rows = w.rows(self.width);

@@ -90,11 +90,8 @@ impl Header {
     pub fn next(self, table: &[u32], word: u32) -> Reply
         ensures { λ r. ⌜ r ≡ nextReply self (now (table .entry)) word ⌝ }
     {
-        if self.is_wrong(table) {
-            return self.refused(Answer::WrongHeader);
-        }
-        if self.is_exceeded_by(word) {
-            return self.refused(Answer::WordTooWide);
+        if self.refuses(table, word) {
+            return self.refusal(table);
         }
         let w = way_of(table, self, word, word as u64 + 1);
         let rows = w.rows(self.width);
@@ -160,11 +157,8 @@ impl Header {
     pub fn prev(self, table: &[u32], word: u32) -> Reply
         ensures { λ r. ⌜ r ≡ prevReply self (now (table .entry)) word ⌝ }
     {
-        if self.is_wrong(table) {
-            return self.refused(Answer::WrongHeader);
-        }
-        if self.is_exceeded_by(word) {
-            return self.refused(Answer::WordTooWide);
+        if self.refuses(table, word) {
+            return self.refusal(table);
         }
         let w = way_of(table, self, word, word as u64);
         let rows = w.rows(self.width);

@@ -1,13 +1,16 @@
 // The rows of a lent table: where one stands, and the checks of header and word that every call makes first.
 
+use crate::Answer;
 use crate::Entry;
 use crate::Header;
+use crate::Reply;
 use crate::Row;
 ghost use mathlib.Core.Path.{_≡_};
 ghost use Prim.Native.Nat.{_<_, _≤_};
 ghost use Rattle.ordered.specs.Word.{sideOf};
 ghost use Rattle.pretree.specs.Table.{capacity, rowAt, link};
 ghost use Rattle.pretree.specs.Reply.{wrong-header, too-wide};
+ghost use Rattle.pretree.specs.Found.{refuses, refusal};
 
 // "Row i begins at table word 3i."
 pub(crate) fn row_at(table: &[u32], i: u32) -> Row
@@ -68,5 +71,25 @@ impl Header {
         ensures { λ r. ⌜ r ≡ too-wide self word ⌝ }
     {
         1u64 << self.width <= word as u64
+    }
+
+    // A call on a word is refused for its header or for the word.
+    pub(crate) fn refuses(self, table: &[u32], word: u32) -> bool
+        ensures { λ r. ⌜ r ≡ refuses self (now (table .entry)) word ⌝ }
+    {
+        if self.is_wrong(table) {
+            return true;
+        }
+        self.is_exceeded_by(word)
+    }
+
+    // Answer 2 before answer 3.
+    pub(crate) fn refusal(self, table: &[u32]) -> Reply
+        ensures { λ r. ⌜ r ≡ refusal self (now (table .entry)) ⌝ }
+    {
+        if self.is_wrong(table) {
+            return self.refused(Answer::WrongHeader);
+        }
+        self.refused(Answer::WordTooWide)
     }
 }

@@ -1,18 +1,18 @@
 -- The checks of document 01's order, and then what `added` answers and leaves.
-use mathlib.Core.Path.{_≡_, sym, _∙_}
-use mathlib.Core.Bool.{true, false}
-use Rattle.pretree.specs.Reply.{wrong-header, too-wide}
+use mathlib.Core.Path.{_≡_, refl, sym, ap, _∙_}
 use Rattle.pretree.specs.Add.{addOutcome}
-use Rattle.pretree.proofs.Checks.{right-header}
+use Rattle.pretree.specs.Add.{Outcome}
+use Rattle.pretree.specs.Found.{refusal}
+use Rattle.pretree.proofs.Checks.{chosen, not-refused}
 use borrow.Author.Needs.{needs}
 use Rattle.pretree.proofs.Header.add.Statement.{statement}
 use Rattle.pretree.proofs.Header.add.Tie as tie
 
-is-wrong-requires : tie.Need-is-wrong-requires
-is-wrong-requires c κs = search needs
+refuses-requires : tie.Need-refuses-requires
+refuses-requires c κs = search needs
 
-refused-requires : tie.Need-refused-requires
-refused-requires c κs = search needs
+refusal-requires : tie.Need-refusal-requires
+refusal-requires c κs = search needs
 
 same-length : tie.Need-same-length
 same-length c = search needs
@@ -20,53 +20,31 @@ same-length c = search needs
 returns : tie.Need-returns
 unfolding addOutcome
 returns c =
-    let wrong : wrong-header (c .before .before .before .before .before .args .self) (c .before .before .before .before .before .args .table .now) ≡ true = sym (c .before .before .is-wrong .ensures) ∙ c .before .if1 .taken in
-    (simp (wrong, c .refused .ensures), simp wrong)
+    let a = c .before .before .before .before .before .before .args in
+    let out : record { reply = refusal (a .self) (a .table .now); table = a .table .now } ≡ addOutcome (a .self) (a .table .now) (a .word)
+    = chosen {A = Outcome} (a .self) (a .table .now) (a .word) (λ r. record { reply = r; table = a .table .now }) _
+    (sym (c .before .before .before .refuses .ensures) ∙ c .before .before .if1 .taken) in
+    (c .refusal .ensures ∙ ap (λ (o : Outcome). o .reply) out, ap (λ (o : Outcome). o .table) out)
 
--- the header is right
-fine : (c : tie.Else1) → let a = c .before .before .before .before .args in wrong-header (a .self) (a .table .now) ≡ false
-fine c = sym (c .before .is-wrong .ensures) ∙ c .if1 .left
-
-is-exceeded-by-requires : tie.Need-is-exceeded-by-requires
-is-exceeded-by-requires c κs =
-    let a = c .before .before .before .before .args in
-    right-header (a .self) (a .table .now) (fine c) .at-most-32
-
-refused-requires-2 : tie.Need-refused-requires-2
-refused-requires-2 c κs = search needs
+added-requires : tie.Need-added-requires
+added-requires c κs =
+    let a = c .before .before .before .before .before .args in
+    not-refused (a .self) (a .table .now) (a .word) (sym (c .before .before .refuses .ensures) ∙ c .before .if1 .left)
 
 same-length-2 : tie.Need-same-length-2
 same-length-2 c = search needs
 
 returns-2 : tie.Need-returns-2
-unfolding addOutcome
-returns-2 c =
-    let a = c .before .before .before .before .before .before .before .args in
-    let wide : too-wide (a .self) (a .word) ≡ true = sym (c .before .before .is-exceeded-by .ensures) ∙ c .before .if2 .taken in
-    (simp (fine (c .before .before .before), wide, c .refused2 .ensures), simp (fine (c .before .before .before), wide))
-
-added-requires : tie.Need-added-requires
-added-requires c κs =
-    (fine (c .before .before .before), sym (c .before .before .is-exceeded-by .ensures) ∙ c .before .if2 .left)
-
-same-length-3 : tie.Need-same-length-3
-same-length-3 c = search needs
-
-returns-3 : tie.Need-returns-3
-returns-3 c = search needs
+returns-2 c = search needs
 
 pub add-spec : {M : Type 1} → statement M
 add-spec =
     tie.close
     (tie.spec
-    is-wrong-requires
-    refused-requires
+    refuses-requires
+    refusal-requires
     same-length
     returns
-    is-exceeded-by-requires
-    refused-requires-2
-    same-length-2
-    returns-2
     added-requires
-    same-length-3
-    returns-3)
+    same-length-2
+    returns-2)

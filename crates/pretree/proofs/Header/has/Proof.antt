@@ -1,61 +1,36 @@
 -- The checks of document 01's order, and then what `found` answers.
 use mathlib.Core.Path.{_≡_, sym, _∙_}
-use mathlib.Core.Bool.{true, false}
+use mathlib.Core.Bool.{false}
 use Rattle.pretree.specs.Reply.{wrong-header, too-wide}
 use Rattle.pretree.specs.Find.{hasReply}
-use Rattle.pretree.proofs.Checks.{right-header}
+use Rattle.pretree.proofs.Checks.{chosen, not-refused}
 use borrow.Author.Needs.{needs}
 use Rattle.pretree.proofs.Header.has.Statement.{statement}
 use Rattle.pretree.proofs.Header.has.Tie as tie
 
-is-wrong-requires : tie.Need-is-wrong-requires
-is-wrong-requires c κs = search needs
+refuses-requires : tie.Need-refuses-requires
+refuses-requires c κs = search needs
 
-refused-requires : tie.Need-refused-requires
-refused-requires c κs = search needs
+refusal-requires : tie.Need-refusal-requires
+refusal-requires c κs = search needs
 
 returns : tie.Need-returns
 unfolding hasReply
 returns c =
     let a = c .before .before .before .before .args in
-    let wrong : wrong-header (a .self) (a .table .now) ≡ true = sym (c .before .before .is-wrong .ensures) ∙ c .before .if1 .taken in
-    simp (wrong, c .refused .ensures)
+    c .refusal .ensures ∙ chosen (a .self) (a .table .now) (a .word) (λ r. r) _ (sym (c .before .before .refuses .ensures) ∙ c .before .if1 .taken)
 
--- the header is right
-fine : (c : tie.Else1) → let a = c .before .before .before .args in wrong-header (a .self) (a .table .now) ≡ false
-fine c = sym (c .before .is-wrong .ensures) ∙ c .if1 .left
-
-is-exceeded-by-requires : tie.Need-is-exceeded-by-requires
-is-exceeded-by-requires c κs =
+-- neither header nor word is refused
+fine : (c : tie.Else1) → let a = c .before .before .before .args in (wrong-header (a .self) (a .table .now) ≡ false) × (too-wide (a .self) (a .word) ≡ false)
+fine c =
     let a = c .before .before .before .args in
-    right-header (a .self) (a .table .now) (fine c) .at-most-32
-
-refused-requires-2 : tie.Need-refused-requires-2
-refused-requires-2 c κs = search needs
-
-returns-2 : tie.Need-returns-2
-unfolding hasReply
-returns-2 c =
-    let a = c .before .before .before .before .before .before .args in
-    let wide : too-wide (a .self) (a .word) ≡ true = sym (c .before .before .is-exceeded-by .ensures) ∙ c .before .if2 .taken in
-    simp (fine (c .before .before .before), wide, c .refused2 .ensures)
+    not-refused (a .self) (a .table .now) (a .word) (sym (c .before .refuses .ensures) ∙ c .if1 .left)
 
 found-requires : tie.Need-found-requires
-found-requires c κs =
-    (fine (c .before .before), sym (c .before .is-exceeded-by .ensures) ∙ c .if2 .left)
+found-requires c κs = fine c
 
-returns-3 : tie.Need-returns-3
-returns-3 c = search needs
+returns-2 : tie.Need-returns-2
+returns-2 c = search needs
 
 pub has-spec : {M : Type 1} → statement M
-has-spec =
-    tie.close
-    (tie.spec
-    is-wrong-requires
-    refused-requires
-    returns
-    is-exceeded-by-requires
-    refused-requires-2
-    returns-2
-    found-requires
-    returns-3)
+has-spec = tie.close (tie.spec refuses-requires refusal-requires returns found-requires returns-2)
