@@ -22,19 +22,13 @@ pub enum Neighbour {
 fn neighbour_in(answer: Answer) -> Neighbour
     ensures { λ r. ⌜ r ≡ neighbour answer ⌝ }
 {
-    match answer {
-        Answer::Word(word) => Neighbour::At(word),
-        Answer::NoSuchWord => Neighbour::Nowhere,
-        Answer::Done => Neighbour::Unknown,
-        Answer::Distance(_) => Neighbour::Unknown,
-        Answer::WrongWidth => Neighbour::Unknown,
-        Answer::WrongHeader => Neighbour::Unknown,
-        Answer::WordTooWide => Neighbour::Unknown,
-        Answer::Damage => Neighbour::Unknown,
-        Answer::Full => Neighbour::Unknown,
-        Answer::ShortBuffer => Neighbour::Unknown,
-        Answer::AlreadyThere => Neighbour::Unknown,
+    if let Answer::Word(word) = answer {
+        return Neighbour::At(word);
     }
+    if let Answer::NoSuchWord = answer {
+        return Neighbour::Nowhere;
+    }
+    Neighbour::Unknown
 }
 
 fn distance(from: u32, to: u32) -> u32
