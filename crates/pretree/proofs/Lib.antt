@@ -2,6 +2,7 @@ pub mod Tests
 pub mod Writing
 pub mod Checks
 pub mod Unfolding
+pub mod Stages
 pub mod Walking
 pub mod Seeking
 pub mod Between

@@ -74,17 +74,15 @@ impl Header {
         requires { ⌜ passed ≤ 32 ⌝ }
         ensures { λ r. ⌜ r ≡ found-by self word key (passed + endRead stage) stage ⌝ }
     {
-        match stage {
-            Stage::AtDamage => self.refused(Answer::Damage),
-            Stage::AtRow => {
-                if word == key {
-                    self.answered(Answer::Done, passed + 1)
-                } else {
-                    self.answered(Answer::NoSuchWord, passed + 1)
-                }
-            }
-            Stage::AtNone => self.answered(Answer::NoSuchWord, passed),
-            Stage::On => self.answered(Answer::NoSuchWord, passed),
+        if let Stage::AtDamage = stage {
+            return self.refused(Answer::Damage);
         }
+        if let Stage::AtRow = stage {
+            if word == key {
+                return self.answered(Answer::Done, passed + 1);
+            }
+            return self.answered(Answer::NoSuchWord, passed + 1);
+        }
+        self.answered(Answer::NoSuchWord, passed)
     }
 }

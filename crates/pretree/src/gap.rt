@@ -62,18 +62,16 @@ impl Header {
         requires width { ⌜ too-wide self word ≡ false ⌝ }
         ensures { λ r. ⌜ r ≡ gap-from self (now (table .entry)) word key rows stage ⌝ }
     {
-        match stage {
-            Stage::AtDamage => self.refused(Answer::Damage),
-            Stage::AtRow => {
-                if word == key {
-                    self.answered(Answer::Distance(0), rows)
-                } else {
-                    self.nearest(table, word)
-                }
-            }
-            Stage::AtNone => self.nearest(table, word),
-            Stage::On => self.nearest(table, word),
+        if let Stage::AtDamage = stage {
+            return self.refused(Answer::Damage);
         }
+        if let Stage::AtRow = stage {
+            if word == key {
+                return self.answered(Answer::Distance(0), rows);
+            }
+            return self.nearest(table, word);
+        }
+        self.nearest(table, word)
     }
 
     // "its count is the two counts added"

@@ -52,12 +52,13 @@ impl Header {
     fn word_at(self, stage: Stage, key: u32, rows: u32) -> Reply
         ensures { λ r. ⌜ r ≡ word-by self key rows stage ⌝ }
     {
-        match stage {
-            Stage::AtDamage => self.refused(Answer::Damage),
-            Stage::AtRow => self.answered(Answer::Word(key), rows),
-            Stage::AtNone => self.answered(Answer::NoSuchWord, rows),
-            Stage::On => self.answered(Answer::NoSuchWord, rows),
+        if let Stage::AtDamage = stage {
+            return self.refused(Answer::Damage);
         }
+        if let Stage::AtRow = stage {
+            return self.answered(Answer::Word(key), rows);
+        }
+        self.answered(Answer::NoSuchWord, rows)
     }
 
     // "`first` reads the root."
@@ -115,18 +116,16 @@ impl Header {
         requires { ⌜ (any ≡ true → (aside < self .count) × (beneath < self .width)) ⌝ }
         ensures { λ r. ⌜ r ≡ next-from self (rowAt (now (table .entry))) word stage key rows any beneath aside ⌝ }
     {
-        match stage {
-            Stage::AtDamage => self.refused(Answer::Damage),
-            Stage::AtRow => {
-                if word < key {
-                    self.answered(Answer::Word(key), rows)
-                } else {
-                    self.aside_at(table, rows, any, aside, beneath)
-                }
-            }
-            Stage::AtNone => self.aside_at(table, rows, any, aside, beneath),
-            Stage::On => self.aside_at(table, rows, any, aside, beneath),
+        if let Stage::AtDamage = stage {
+            return self.refused(Answer::Damage);
         }
+        if let Stage::AtRow = stage {
+            if word < key {
+                return self.answered(Answer::Word(key), rows);
+            }
+            return self.aside_at(table, rows, any, aside, beneath);
+        }
+        self.aside_at(table, rows, any, aside, beneath)
     }
 
     // "take the deepest row where the way went left and a right link exists; its right child is read and is the answer"
@@ -182,18 +181,16 @@ impl Header {
         requires { ⌜ (bits < self .width → above < self .count) ⌝ }
         ensures { λ r. ⌜ r ≡ prev-from self (rowAt (now (table .entry))) word stage key rows bits path above ⌝ }
     {
-        match stage {
-            Stage::AtDamage => self.refused(Answer::Damage),
-            Stage::AtRow => {
-                if key < word {
-                    self.answered(Answer::Word(key), rows)
-                } else {
-                    self.above_at(table, rows, bits, path, above)
-                }
-            }
-            Stage::AtNone => self.above_at(table, rows, bits, path, above),
-            Stage::On => self.above_at(table, rows, bits, path, above),
+        if let Stage::AtDamage = stage {
+            return self.refused(Answer::Damage);
         }
+        if let Stage::AtRow = stage {
+            if key < word {
+                return self.answered(Answer::Word(key), rows);
+            }
+            return self.above_at(table, rows, bits, path, above);
+        }
+        self.above_at(table, rows, bits, path, above)
     }
 
     // "No such row: none. If the way turned right at p and p has a left child, go down from that child [..] Otherwise p."

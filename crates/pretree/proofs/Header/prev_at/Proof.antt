@@ -1,8 +1,11 @@
 -- By the stage, and at a row by its key.
 use mathlib.Core.Path.{_≡_}
 use borrow.Author.Tests.{lt-ltb, le-ltb}
-use Rattle.pretree.specs.declared.walk.Stage.the-variants.{On, AtNone, AtRow, AtDamage}
+use Rattle.pretree.specs.Table.{rowAt}
 use borrow.Author.Needs.{needs}
+use Rattle.pretree.specs.declared.walk.Stage.the-variants.{AtRow, AtDamage}
+use Rattle.pretree.specs.Found.{prev-from}
+use Rattle.pretree.proofs.Stages.{nowhere}
 use Rattle.pretree.proofs.Header.prev_at.Statement.{statement}
 use Rattle.pretree.proofs.Header.prev_at.Tie as tie
 
@@ -12,51 +15,38 @@ enum-told c = search needs
 refused-requires : tie.Need-refused-requires
 refused-requires c κs = search needs
 
+returns : tie.Need-returns
+returns c =
+    let at : c .before .before .before .before .args .stage ≡ AtDamage = search needs in
+    simp (at, c .refused .ensures)
+
 enum-told-2 : tie.Need-enum-told-2
 enum-told-2 c = search needs
 
 answered-requires : tie.Need-answered-requires
 answered-requires c κs = search needs
 
+returns-2 : tie.Need-returns-2
+returns-2 c =
+    let at : c .before .before .before .before .before .before .args .stage ≡ AtRow = search needs in
+    simp (at, lt-ltb _ _ (c .before .if1 .taken), c .answered .ensures)
+
 above-at-requires : tie.Need-above-at-requires
 above-at-requires c κs = search needs
 
-enum-told-3 : tie.Need-enum-told-3
-enum-told-3 c = search needs
+returns-3 : tie.Need-returns-3
+returns-3 c =
+    let at : c .before .before .before .before .before .before .args .stage ≡ AtRow = search needs in
+    simp (at, le-ltb _ _ (c .before .if1 .left), c .above-at .ensures)
 
 above-at-requires-2 : tie.Need-above-at-requires-2
 above-at-requires-2 c κs = search needs
 
-enum-told-4 : tie.Need-enum-told-4
-enum-told-4 c = search needs
-
-above-at-requires-3 : tie.Need-above-at-requires-3
-above-at-requires-3 c κs = search needs
-
-returns : tie.Need-returns
-returns c =
-    let at : c .before .before .before .before .args .stage ≡ AtDamage = search needs in
-    simp (at, c .refused .ensures)
-
-returns-2 : tie.Need-returns-2
-returns-2 c =
-    let at : c .before .before .before .before .before .args .stage ≡ AtRow = search needs in
-    simp (at, lt-ltb _ _ (c .before .if1 .taken), c .answered .ensures)
-
-returns-3 : tie.Need-returns-3
-returns-3 c =
-    let at : c .before .before .before .before .before .args .stage ≡ AtRow = search needs in
-    simp (at, le-ltb _ _ (c .before .if1 .left), c .above-at .ensures)
-
 returns-4 : tie.Need-returns-4
 returns-4 c =
-    let at : c .before .before .before .before .args .stage ≡ AtNone = search needs in
-    simp (at, c .above-at2 .ensures)
-
-returns-5 : tie.Need-returns-5
-returns-5 c =
-    let at : c .before .before .before .before .args .stage ≡ On = search needs in
-    simp (at, c .above-at3 .ensures)
+    let a = c .before .before .before .before .args in
+    nowhere (a .stage) (c .before .before .match .keys2) (c .before .match2 .keys2) (λ s. c .above-at2 .result ≡ prev-from (a .self) (rowAt (a .table .now)) (a .word) s (a .key) (a .rows) (a .bits) (a .path) (a .above))
+    (c .above-at2 .ensures) (c .above-at2 .ensures)
 
 pub prev-at-spec : {M : Type 1} → statement M
 prev-at-spec =
@@ -64,15 +54,11 @@ prev-at-spec =
     (tie.spec
     enum-told
     refused-requires
+    returns
     enum-told-2
     answered-requires
-    above-at-requires
-    enum-told-3
-    above-at-requires-2
-    enum-told-4
-    above-at-requires-3
-    returns
     returns-2
+    above-at-requires
     returns-3
-    returns-4
-    returns-5)
+    above-at-requires-2
+    returns-4)

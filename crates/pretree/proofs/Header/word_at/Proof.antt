@@ -1,7 +1,9 @@
 -- By the stage.
 use mathlib.Core.Path.{_≡_}
-use Rattle.pretree.specs.declared.walk.Stage.the-variants.{On, AtNone, AtRow, AtDamage}
 use borrow.Author.Needs.{needs}
+use Rattle.pretree.specs.declared.walk.Stage.the-variants.{AtRow, AtDamage}
+use Rattle.pretree.specs.Found.{word-by}
+use Rattle.pretree.proofs.Stages.{nowhere}
 use Rattle.pretree.proofs.Header.word_at.Statement.{statement}
 use Rattle.pretree.proofs.Header.word_at.Tie as tie
 
@@ -11,43 +13,30 @@ enum-told c = search needs
 refused-requires : tie.Need-refused-requires
 refused-requires c κs = search needs
 
+returns : tie.Need-returns
+returns c =
+    let at : c .before .before .before .args .stage ≡ AtDamage = search needs in
+    simp (at, c .refused .ensures)
+
 enum-told-2 : tie.Need-enum-told-2
 enum-told-2 c = search needs
 
 answered-requires : tie.Need-answered-requires
 answered-requires c κs = search needs
 
-enum-told-3 : tie.Need-enum-told-3
-enum-told-3 c = search needs
+returns-2 : tie.Need-returns-2
+returns-2 c =
+    let at : c .before .before .before .before .args .stage ≡ AtRow = search needs in
+    simp (at, c .answered .ensures)
 
 answered-requires-2 : tie.Need-answered-requires-2
 answered-requires-2 c κs = search needs
 
-enum-told-4 : tie.Need-enum-told-4
-enum-told-4 c = search needs
-
-answered-requires-3 : tie.Need-answered-requires-3
-answered-requires-3 c κs = search needs
-
-returns : tie.Need-returns
-returns c =
-    let at : c .before .before .before .args .stage ≡ AtDamage = search needs in
-    simp (at, c .refused .ensures)
-
-returns-2 : tie.Need-returns-2
-returns-2 c =
-    let at : c .before .before .before .args .stage ≡ AtRow = search needs in
-    simp (at, c .answered .ensures)
-
 returns-3 : tie.Need-returns-3
 returns-3 c =
-    let at : c .before .before .before .args .stage ≡ AtNone = search needs in
-    simp (at, c .answered2 .ensures)
-
-returns-4 : tie.Need-returns-4
-returns-4 c =
-    let at : c .before .before .before .args .stage ≡ On = search needs in
-    simp (at, c .answered3 .ensures)
+    let a = c .before .before .before .args in
+    nowhere (a .stage) (c .before .before .match .keys2) (c .before .match2 .keys2) (λ s. c .answered2 .result ≡ word-by (a .self) (a .key) (a .rows) s)
+    (c .answered2 .ensures) (c .answered2 .ensures)
 
 pub word-at-spec : {M : Type 1} → statement M
 word-at-spec =
@@ -55,13 +44,9 @@ word-at-spec =
     (tie.spec
     enum-told
     refused-requires
+    returns
     enum-told-2
     answered-requires
-    enum-told-3
-    answered-requires-2
-    enum-told-4
-    answered-requires-3
-    returns
     returns-2
-    returns-3
-    returns-4)
+    answered-requires-2
+    returns-3)
