@@ -16,6 +16,7 @@ pub mod Spelled
 pub mod Writes
 pub mod Rewritten
 pub mod Added
+pub mod Erasures
 pub mod Removed
 pub mod Demand2
 pub mod History
