@@ -5,12 +5,30 @@ use mathlib.Core.List.{List}
 use lib.ListN.{length}
 use Rattle.pretree.specs.declared.Header.{Header}
 use Rattle.pretree.specs.declared.Reply.{Reply}
+use Rattle.pretree.specs.Find.{hasReply, nextReply, prevReply, firstReply, lastReply, gapReply}
+use Rattle.pretree.specs.Whole.{auditReply}
+use Rattle.lines.specs.declared.Call.{Call}
+use Rattle.lines.specs.declared.Call.the-variants.{New, Add, Del, Has, Next, Prev, Gap, First, Last, Audit}
 use Rattle.lines.specs.declared.answer.Ran.{Ran}
 use Rattle.lines.specs.declared.session.Session.{Session as Kept}
 use Rattle.lines.specs.declared.session.Went.{Went}
 use Rattle.lines.specs.Render.{Put}
 use Rattle.lines.specs.Output.{State, Outcome, Step, Session, taken, told}
 use Rattle.lines.specs.Gather.{Held}
+
+-- the reply of a call that leaves the table and the buffer as they are; the other calls are not asked for, and are taken for `audit`
+unfoldable pub looked : Header → List ℕ → Call → Reply
+looked h t (New k) = auditReply h t
+looked h t (Add k) = auditReply h t
+looked h t (Del k) = auditReply h t
+looked h t (Has k) = hasReply h t k
+looked h t (Next k) = nextReply h t k
+looked h t (Prev k) = prevReply h t k
+looked h t (Gap k) = gapReply h t k
+looked h t First = firstReply h t
+looked h t Last = lastReply h t
+looked h t Call.List = auditReply h t
+looked h t Audit = auditReply h t
 
 -- a call was run, and this is what it left
 pub record Runs (o : Outcome) (r : Ran) (rows words : List ℕ) : Type 0 where

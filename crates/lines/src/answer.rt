@@ -15,8 +15,8 @@ ghost use Prim.Native.Nat.{_+_, _*_, _<_, _≤_, _^_};
 ghost use lib.ListN.{length};
 ghost use Rattle.lines.specs.Line.{parse};
 ghost use Rattle.lines.specs.declared.Line.the-variants.{Read};
-ghost use Rattle.lines.specs.Output.{run, answer, leaving, listedIn};
-ghost use Rattle.lines.specs.Answering.{Runs, stateOf, Answers};
+ghost use Rattle.lines.specs.Output.{run, answer, listedIn};
+ghost use Rattle.lines.specs.Answering.{looked, Runs, stateOf, Answers};
 
 // What a call replied, and how many words of the buffer are listed behind the reply.
 pub struct Ran {
@@ -52,14 +52,23 @@ fn run(call: Call, header: Header, table: &mut [u32], words: &mut [u32]) -> Ran
         Call::New(width) => unlisted(header.new(table, width)),
         Call::Add(k) => unlisted(header.add(table, k)),
         Call::Del(k) => unlisted(header.del(table, k)),
-        Call::Has(k) => unlisted(header.has(table, k)),
-        Call::Next(k) => unlisted(header.next(table, k)),
-        Call::Prev(k) => unlisted(header.prev(table, k)),
-        Call::Gap(k) => unlisted(header.gap(table, k)),
-        Call::First => unlisted(header.first(table)),
-        Call::Last => unlisted(header.last(table)),
         Call::List => listed(header.list(table, words)),
-        Call::Audit => unlisted(header.audit(table)),
+        _ => unlisted(look(call, header, table)),
+    }
+}
+
+// The calls that leave the table and the buffer as they are.
+fn look(call: Call, header: Header, table: &[u32]) -> Reply
+    ensures { λ r. ⌜ r ≡ looked header (now (table .entry)) call ⌝ }
+{
+    match call {
+        Call::Has(k) => header.has(table, k),
+        Call::Next(k) => header.next(table, k),
+        Call::Prev(k) => header.prev(table, k),
+        Call::Gap(k) => header.gap(table, k),
+        Call::First => header.first(table),
+        Call::Last => header.last(table),
+        _ => header.audit(table),
     }
 }
 
