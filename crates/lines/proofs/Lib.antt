@@ -11,5 +11,6 @@ pub mod Gathering
 pub mod Looking
 pub mod Running
 pub mod Feeding
+pub mod Stepping
 pub mod Serving
 pub mod Examples

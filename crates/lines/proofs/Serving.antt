@@ -6,7 +6,9 @@ use lib.ListN.{length}
 use native.Mathlib.Omega.{arith}
 use Rattle.lines.specs.declared.session.Session.{Session as Kept}
 use Rattle.lines.specs.declared.session.Went.{Went}
+use Rattle.lines.specs.declared.serve.Spoke.{Spoke}
 use Rattle.lines.specs.Answering.{Moves}
+use Rattle.lines.specs.Serving.{Served}
 
 -- the sizes of the lent slices are those at the start, and enough
 pub record Lent (table₀ words₀ buffer₀ out₀ table words buffer out : List ℕ) : Type 0 where
@@ -38,6 +40,16 @@ spoke-on s m = omega arith
 -- so many turns may still read
 pub record Reading (input₀ input : List ℕ) (kept : Kept) (turns : ℕ) : Type 0 where
   pub input-size : length input ≡ length input₀
+  pub some : 0 < length input
   pub short : length input ≤ 65536
   pub held : kept .held ≤ 65
   pub lines : kept .lines + 65536 * turns ≤ 2 ^ 63
+
+-- one turn more
+module _ (next : List ℕ) {input₀ input : List ℕ} {kept : Kept} {turns less size : ℕ} (r : Reading input₀ input kept turns) (same : length next ≡ length input)
+    (inside : size ≤ length next) (fewer : less < turns) where
+  pub lines-fit : kept .lines + size < 2 ^ 64
+  lines-fit = omega arith
+
+  pub read-on : {spoke : Spoke} → Served size kept spoke → spoke .turns ≤ less → Reading input₀ next (spoke .session) (spoke .turns)
+  read-on s h = omega arith

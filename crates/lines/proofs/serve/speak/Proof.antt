@@ -9,11 +9,11 @@ use Rattle.lines.proofs.serve.speak.Statement.{statement}
 use Rattle.lines.proofs.serve.speak.Tie as tie
 
 abbrev Inv-loop : tie.InvT-loop
-Inv-loop piece table₀ words₀ buffer₀ out₀ kept₀ from₀ table words buffer out kept from =
+Inv-loop turns piece table₀ words₀ buffer₀ out₀ kept₀ from₀ table words buffer out kept from =
     Lent table₀ words₀ buffer₀ out₀ table words buffer out × Speaking piece kept₀ kept from
 
 abbrev μ-loop : tie.MeasureT-loop
-μ-loop piece table₀ words₀ buffer₀ out₀ kept₀ from₀ table words buffer out kept from = length piece - from
+μ-loop turns piece table₀ words₀ buffer₀ out₀ kept₀ from₀ table words buffer out kept from = length piece - from
 
 loop-holds : tie.Need-loop-holds Inv-loop μ-loop
 loop-holds c =
