@@ -37,19 +37,27 @@ pub spoke-on :
     → Speaking piece kept₀ (r .session) (r .from)
 spoke-on s m = omega arith
 
--- so many turns may still read
-pub record Reading (input₀ input : List ℕ) (kept : Kept) (turns : ℕ) : Type 0 where
-  pub input-size : length input ≡ length input₀
-  pub some : 0 < length input
-  pub short : length input ≤ 65536
-  pub held : kept .held ≤ 65
-  pub lines : kept .lines + 65536 * turns ≤ 2 ^ 63
+pub served : {piece : List ℕ} {kept₀ kept : Kept} {from : ℕ} {r : Spoke} → Speaking piece kept₀ kept from → r .session ≡ kept → Served (length piece) kept₀ r
+served s e = record { held = rw e (s .held); lines = rw e (omega arith) }
+
+-- the arrays have their sizes, and so many turns may still read
+pub record Reading (table words buffer input out : List ℕ) (spoke : Spoke) : Type 0 where
+  pub table-size : length table ≡ 12288
+  pub words-size : length words ≡ 4096
+  pub buffer-size : length buffer ≡ 65
+  pub input-size : length input ≡ 65536
+  pub out-size : length out ≡ 131072
+  pub held : spoke .session .held ≤ 65
+  pub lines : spoke .session .lines + 65536 * spoke .turns ≤ 2 ^ 63
 
 -- one turn more
-module _ (next : List ℕ) {input₀ input : List ℕ} {kept : Kept} {turns less size : ℕ} (r : Reading input₀ input kept turns) (same : length next ≡ length input)
-    (inside : size ≤ length next) (fewer : less < turns) where
-  pub lines-fit : kept .lines + size < 2 ^ 64
+module _ (next : List ℕ) {table words buffer input out : List ℕ} {spoke : Spoke} (r : Reading table words buffer input out spoke)
+    (same : length next ≡ length input) {size less : ℕ} (inside : size ≤ length next) (fewer : less < spoke .turns) where
+  pub lines-fit : spoke .session .lines + size < 2 ^ 64
   lines-fit = omega arith
 
-  pub read-on : {spoke : Spoke} → Served size kept spoke → spoke .turns ≤ less → Reading input₀ next (spoke .session) (spoke .turns)
-  read-on s h = omega arith
+  pub read-on :
+      {rows list hold left : List ℕ} {after : Spoke} → length rows ≡ length table → length list ≡ length words → length hold ≡ length buffer
+      → length left ≡ length out → Served size (spoke .session) after → after .turns ≤ less
+      → Reading rows list hold next left after
+  read-on t w b o s h = omega arith

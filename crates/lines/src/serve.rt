@@ -2,6 +2,7 @@
 // What is read and written no contract can say; `feed` says what is told of each piece, and Pieces.antt that the pieces do not matter.
 
 use crate::session::Session;
+use crate::session::Went;
 use crate::session::feed;
 use libc::STDIN_FILENO;
 use libc::STDOUT_FILENO;
@@ -24,33 +25,34 @@ pub struct Spoke {
 }
 
 // "Table of 4,096 rows, all zeros, and a `list` buffer of 4,096 words. Header at the start: W 0, count 0."
+// A proved loop has to end, and nothing says that the input does. So the loop counts its turns down, from a number that no run uses up:
+// at 65,536 bytes a turn it would have read 2^63 bytes.
 pub fn run() {
     let mut table = [0u32; 12288];
     let mut words = [0u32; 4096];
     let mut buffer = [0u8; 65];
     let mut input = io::large_buffer();
     let mut out = [0u8; 131072];
-    serve(&mut table, &mut words, &mut buffer, &mut input, &mut out);
-}
-
-// A proved loop has to end, and nothing says that the input does. So the loop counts its turns down, from a number that no run uses up:
-// at 65,536 bytes a turn it would have read 2^63 bytes.
-fn serve(table: &mut [u32], words: &mut [u32], buffer: &mut [u8], input: &mut [u8], out: &mut [u8])
-    requires { ⌜ Sizes (now words) (now buffer) (now out) ⌝ }
-    requires { ⌜ (0 < length (now input)) × (length (now input) ≤ 65536) ⌝ }
-{
-    let mut session = Session {
-        header: Header::fresh(0),
-        lines: 0,
-        held: 0,
+    let mut spoke = Spoke {
+        session: Session {
+            header: Header::fresh(0),
+            lines: 0,
+            held: 0,
+        },
+        turns: 140737488355328,
     };
-    let mut turns: u64 = 140737488355328;
-    while 0 < turns {
-        let piece = next_piece(input, session.held, turns);
+    while 0 < spoke.turns {
+        let piece = next_piece(&mut input, spoke.session.held, spoke.turns);
         let n = piece.size;
-        let spoke = speak(session, piece.turns, &input[..n], table, words, buffer, out);
-        session = spoke.session;
-        turns = spoke.turns;
+        spoke = speak(
+            spoke.session,
+            piece.turns,
+            &input[..n],
+            &mut table,
+            &mut words,
+            &mut buffer,
+            &mut out,
+        );
     }
 }
 
@@ -89,22 +91,24 @@ fn speak(
     ensures { λ r. ⌜ Served (length (now (piece .entry))) session r ⌝ }
     ensures { λ r. ⌜ r .turns ≤ turns ⌝ }
 {
-    let mut kept = session;
-    let mut from: usize = 0;
-    while from < piece.len() {
-        let went = feed(kept, piece, from, table, words, buffer, out);
+    let mut went = Went {
+        session,
+        from: 0,
+        next: 0,
+    };
+    while went.from < piece.len() {
+        went = feed(went.session, piece, went.from, table, words, buffer, out);
         let n = went.next;
-        kept = went.session;
-        from = went.from;
         if !io::write_all(STDOUT_FILENO, &out[..n]) {
-            return Spoke {
-                session: kept,
-                turns: 0,
-            };
+            return spoke_of(went, 0);
         }
     }
-    Spoke {
-        session: kept,
-        turns,
-    }
+    spoke_of(went, turns)
+}
+
+fn spoke_of(went: Went, turns: u64) -> Spoke
+    ensures { λ r. ⌜ (r .session ≡ went .session) × (r .turns ≡ turns) ⌝ }
+{
+    let session = went.session;
+    Spoke { session, turns }
 }
