@@ -8,6 +8,7 @@ pub mod Spelling
 pub mod KeyLines
 pub mod Pieces
 pub mod Gathering
+pub mod Keys
 pub mod Looking
 pub mod Running
 pub mod Feeding
