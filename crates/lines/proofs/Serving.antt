@@ -2,13 +2,14 @@
 use Prim.Native.Nat.{ℕ, _+_, _*_, _^_, _≤_, _<_}
 use mathlib.Core.Path.{_≡_}
 use mathlib.Core.List.{List}
-use lib.ListN.{length}
+use lib.ListN.{length, replicate, length-replicate}
 use native.Mathlib.Omega.{arith}
+use Rattle.pretree.specs.declared.Header.{Header}
 use Rattle.lines.specs.declared.session.Session.{Session as Kept}
 use Rattle.lines.specs.declared.session.Went.{Went}
 use Rattle.lines.specs.declared.serve.Spoke.{Spoke}
 use Rattle.lines.specs.Answering.{Moves}
-use Rattle.lines.specs.Serving.{Served}
+use Rattle.lines.specs.Serving.{Sizes, Served}
 
 -- the sizes of the lent slices are those at the start, and enough
 pub record Lent (table₀ words₀ buffer₀ out₀ table words buffer out : List ℕ) : Type 0 where
@@ -37,6 +38,9 @@ pub spoke-on :
     → Speaking piece kept₀ (r .session) (r .from)
 spoke-on s m = omega arith
 
+pub fewer-turns : {a b c : ℕ} → a ≤ b → b < c → a < c
+fewer-turns h l = omega arith
+
 pub served : {piece : List ℕ} {kept₀ kept : Kept} {from : ℕ} {r : Spoke} → Speaking piece kept₀ kept from → r .session ≡ kept → Served (length piece) kept₀ r
 served s e = record { held = rw e (s .held); lines = rw e (omega arith) }
 
@@ -49,6 +53,27 @@ pub record Reading (table words buffer input out : List ℕ) (spoke : Spoke) : T
   pub out-size : length out ≡ 131072
   pub held : spoke .session .held ≤ 65
   pub lines : spoke .session .lines + 65536 * spoke .turns ≤ 2 ^ 63
+
+pub begun : {h : Header} {input : List ℕ} → length input ≡ 65536
+    → Reading (replicate 12288 0) (replicate 4096 0) (replicate 65 0) input (replicate 131072 0)
+    (record { session = record { header = h; lines = 0; held = 0 }; turns = 140737488355328 })
+begun e =
+    record {
+      table-size = length-replicate {A = ℕ} 12288 0;
+      words-size = length-replicate {A = ℕ} 4096 0;
+      buffer-size = length-replicate {A = ℕ} 65 0;
+      input-size = e;
+      out-size = length-replicate {A = ℕ} 131072 0;
+      held = omega arith;
+      lines = omega arith;
+    }
+
+module _ {table words buffer input out : List ℕ} {spoke : Spoke} (r : Reading table words buffer input out spoke) where
+  pub some-room : 0 < length input
+  some-room = omega arith
+
+  pub enough : Sizes words buffer out
+  enough = record { holds = r .buffer-size; room = omega arith }
 
 -- one turn more
 module _ (next : List ℕ) {table words buffer input out : List ℕ} {spoke : Spoke} (r : Reading table words buffer input out spoke)
