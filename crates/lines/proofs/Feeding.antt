@@ -21,11 +21,6 @@ use Rattle.lines.proofs.Puts.{put-then}
 use Rattle.lines.proofs.Pieces.{ended-here, ended-later, unended-here, unended-later, taken-append, told-append}
 use Rattle.lines.proofs.Gathering.{until-first, until-later, no-line-ends, held-none, parse-held}
 
--- nothing is held of a line that has not begun
-pub none-begun : {buffer : List ℕ} {count : ℕ} (line : List ℕ) → Held buffer count line → count ≡ 0 → line ≡ []
-none-begun [] h e = refl
-none-begun (b ∷ line) h e = absurd (omega (arith, h .number))
-
 -- a line is read as well from what is held of it
 pub parse-gathered : {buffer : List ℕ} {count : ℕ} {line : List ℕ} → Held buffer count line → parse (take count buffer) ≡ parse line
 parse-gathered {line} h = ap parse (h .content) ∙ parse-held line

@@ -8,7 +8,10 @@ pub mod Spelling
 pub mod KeyLines
 pub mod Pieces
 pub mod Gathering
+pub mod Keys
+pub mod Looking
 pub mod Running
 pub mod Feeding
+pub mod Stepping
 pub mod Serving
 pub mod Examples

@@ -2,7 +2,7 @@
 use Prim.Native.Nat.{ℕ, _+_, _≤_}
 use mathlib.Core.Path.{_≡_, refl}
 use mathlib.Core.Bool.{true, false}
-use mathlib.Core.List.{List}
+use mathlib.Core.List.{List, append-nil}
 use mathlib.Core.Logic.{⊎-elim}
 use native.Mathlib.Omega.{arith}
 use borrow.Author.Tests.{ltb-false}
@@ -16,11 +16,13 @@ use Rattle.pretree.specs.Sound.{isSound}
 use Rattle.pretree.specs.Whole.{listReply}
 use Rattle.lines.specs.declared.Call.{Call}
 use Rattle.lines.specs.declared.Call.the-variants.{New, Add, Del, Has, Next, Prev, Gap, First, Last, Audit}
+use Rattle.lines.specs.declared.Line.{Line}
 use Rattle.lines.specs.declared.Line.the-variants.{Read, Unread}
 use Rattle.lines.specs.declared.answer.Ran.{Ran}
-use Rattle.lines.specs.Render.{saidOf, notRead, replyLine, keyLines, Put}
+use Rattle.lines.specs.declared.answer.Heard.{Heard}
+use Rattle.lines.specs.Render.{notRead, replyLine, keyLines, Put}
 use Rattle.lines.specs.Output.{State, run, listedIn, answer}
-use Rattle.lines.specs.Answering.{Runs, stateOf, Answers}
+use Rattle.lines.specs.Answering.{Runs, heardOf, stateOf, Hears, Answers}
 use Rattle.lines.proofs.Tests.{either}
 use Rattle.lines.proofs.Puts.{put-then}
 
@@ -57,21 +59,25 @@ listed-within h t b Audit = omega arith
 
 -- a line whose call was run, and a line that is not read
 module _ (s : State) where
-  pub call-answered :
-      (call : Call) {r : Ran} {rows words out middle left : List ℕ} {at next end : ℕ} → Runs (run (s .header) (s .table) (s .buffer) call) r rows words
-      → Put out at (replyLine (s .lines + 1) (saidOf (r .reply))) middle next → Put middle next (keyLines (take (r .listed) words)) left end
-      → end ≤ length left
-      → Answers (answer s (Read call)) (stateOf (r .reply .header) rows words (s .lines + 1)) out at left end
+  pub call-heard :
+      (call : Call) {r : Ran} {rows words : List ℕ} → Runs (run (s .header) (s .table) (s .buffer) call) r rows words → length words ≡ length (s .buffer)
+      → Hears (answer s (Read call)) (s .lines) (heardOf r) rows words
   unfolding answer
-  call-answered call h p q f =
+  call-heard call h size =
       record {
         state = rw (h .reply, h .table, h .buffer, add-one);
-        put = rw (← h .reply, ← h .listed, ← h .buffer, ← add-one (s .lines)) (put-then p q);
-        fits = f;
+        written = rw (h .reply, h .listed, h .buffer, add-one);
+        within = omega (arith, listed-within (s .header) (s .table) (s .buffer) call, h .listed);
       }
 
-  pub unread-answered :
-      {out left : List ℕ} {at next : ℕ} → Put out at (replyLine (s .lines + 1) notRead) left next → next ≤ length left
-      → Answers (answer s Unread) (stateOf (s .header) (s .table) (s .buffer) (s .lines + 1)) out at left next
-  unfolding answer
-  unread-answered p f = record { state = rw add-one; put = rw (← add-one (s .lines)) p; fits = f }
+  pub unread-heard : Hears (answer s Unread) (s .lines) (record { header = s .header; said = notRead; listed = 0 }) (s .table) (s .buffer)
+  unfolding answer keyLines
+  unread-heard = record { state = rw add-one; written = rw (add-one, append-nil); within = omega arith }
+
+  -- what is to be written was put
+  pub heard-answered :
+      (read : Line) {r : Heard} {after : Header} {rows words out middle left : List ℕ} {at next end to : ℕ} → Hears (answer s read) (s .lines) r rows words
+      → after ≡ r .header → Put out at (replyLine (s .lines + 1) (r .said)) middle next → Put middle next (keyLines (take (r .listed) words)) left end
+      → to ≡ end → to ≤ length left
+      → Answers (answer s read) (stateOf after rows words (s .lines + 1)) out at left to
+  heard-answered read h e p q t f = record { state = rw e (h .state); put = rw (t, ← h .written) (put-then p q); fits = f }

@@ -1,16 +1,35 @@
 -- What the functions of `src/answer.rt` and `src/session.rt` leave behind, in the words of Output.antt.
 use Prim.Native.Nat.{ℕ, _+_, _<_, _≤_}
 use mathlib.Core.Path.{_≡_}
-use mathlib.Core.List.{List}
-use lib.ListN.{length}
+use mathlib.Core.List.{List, _++_}
+use lib.ListN.{length, take}
 use Rattle.pretree.specs.declared.Header.{Header}
 use Rattle.pretree.specs.declared.Reply.{Reply}
+use Rattle.pretree.specs.Find.{hasReply, nextReply, prevReply, firstReply, lastReply, gapReply}
+use Rattle.pretree.specs.Whole.{auditReply}
+use Rattle.lines.specs.declared.Call.{Call}
+use Rattle.lines.specs.declared.Call.the-variants.{New, Add, Del, Has, Next, Prev, Gap, First, Last, Audit}
 use Rattle.lines.specs.declared.answer.Ran.{Ran}
+use Rattle.lines.specs.declared.answer.Heard.{Heard}
 use Rattle.lines.specs.declared.session.Session.{Session as Kept}
 use Rattle.lines.specs.declared.session.Went.{Went}
-use Rattle.lines.specs.Render.{Put}
+use Rattle.lines.specs.Render.{saidOf, replyLine, keyLines, Put}
 use Rattle.lines.specs.Output.{State, Outcome, Step, Session, taken, told}
 use Rattle.lines.specs.Gather.{Held}
+
+-- the reply of a call that leaves the table and the buffer as they are; the other calls are not asked for, and are taken for `audit`
+unfoldable pub looked : Header → List ℕ → Call → Reply
+looked h t (New k) = auditReply h t
+looked h t (Add k) = auditReply h t
+looked h t (Del k) = auditReply h t
+looked h t (Has k) = hasReply h t k
+looked h t (Next k) = nextReply h t k
+looked h t (Prev k) = prevReply h t k
+looked h t (Gap k) = gapReply h t k
+looked h t First = firstReply h t
+looked h t Last = lastReply h t
+looked h t Call.List = auditReply h t
+looked h t Audit = auditReply h t
 
 -- a call was run, and this is what it left
 pub record Runs (o : Outcome) (r : Ran) (rows words : List ℕ) : Type 0 where
@@ -21,6 +40,16 @@ pub record Runs (o : Outcome) (r : Ran) (rows words : List ℕ) : Type 0 where
 
 abbrev pub stateOf : Header → List ℕ → List ℕ → ℕ → State
 stateOf h table buffer lines = record { header = h; table = table; buffer = buffer; lines = lines }
+
+-- what is kept of a call that was run
+abbrev pub heardOf : Ran → Heard
+heardOf r = record { header = r .reply .header; said = saidOf (r .reply); listed = r .listed }
+
+-- a line was heard: the state is the one after it, and this is to be written for it
+pub record Hears (s : Step) (lines : ℕ) (r : Heard) (rows words : List ℕ) : Type 0 where
+  pub state : stateOf (r .header) rows words (lines + 1) ≡ s .state
+  pub written : replyLine (lines + 1) (r .said) ++ keyLines (take (r .listed) words) ≡ s .written
+  pub within : r .listed ≤ length words
 
 -- a line was answered: the state is the one after it, and what is written for it was put at the place `at`
 pub record Answers (s : Step) (after : State) (out : List ℕ) (at : ℕ) (left : List ℕ) (next : ℕ) : Type 0 where

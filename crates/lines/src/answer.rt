@@ -2,6 +2,7 @@
 
 use crate::Call;
 use crate::Line;
+use crate::Said;
 use crate::parse::parse;
 use crate::put::put_keys;
 use crate::put::put_reply;
@@ -11,12 +12,11 @@ use crate::reply::said;
 use pretree::Header;
 use pretree::Reply;
 ghost use mathlib.Core.Path.{_≡_};
-ghost use Prim.Native.Nat.{_+_, _*_, _<_, _≤_, _^_};
+ghost use Prim.Native.Nat.{ℕ, _+_, _*_, _<_, _≤_, _^_};
 ghost use lib.ListN.{length};
 ghost use Rattle.lines.specs.Line.{parse};
-ghost use Rattle.lines.specs.declared.Line.the-variants.{Read};
-ghost use Rattle.lines.specs.Output.{run, answer, leaving, listedIn};
-ghost use Rattle.lines.specs.Answering.{Runs, stateOf, Answers};
+ghost use Rattle.lines.specs.Output.{run, answer, listedIn};
+ghost use Rattle.lines.specs.Answering.{looked, Runs, heardOf, stateOf, Hears, Answers};
 
 // What a call replied, and how many words of the buffer are listed behind the reply.
 pub struct Ran {
@@ -52,15 +52,31 @@ fn run(call: Call, header: Header, table: &mut [u32], words: &mut [u32]) -> Ran
         Call::New(width) => unlisted(header.new(table, width)),
         Call::Add(k) => unlisted(header.add(table, k)),
         Call::Del(k) => unlisted(header.del(table, k)),
-        Call::Has(k) => unlisted(header.has(table, k)),
-        Call::Next(k) => unlisted(header.next(table, k)),
-        Call::Prev(k) => unlisted(header.prev(table, k)),
-        Call::Gap(k) => unlisted(header.gap(table, k)),
-        Call::First => unlisted(header.first(table)),
-        Call::Last => unlisted(header.last(table)),
         Call::List => listed(header.list(table, words)),
-        Call::Audit => unlisted(header.audit(table)),
+        _ => unlisted(look(call, header, table)),
     }
+}
+
+// The calls that leave the table and the buffer as they are.
+fn look(call: Call, header: Header, table: &[u32]) -> Reply
+    ensures { λ r. ⌜ r ≡ looked header (now (table .entry)) call ⌝ }
+{
+    match call {
+        Call::Has(k) => header.has(table, k),
+        Call::Next(k) => header.next(table, k),
+        Call::Prev(k) => header.prev(table, k),
+        Call::Gap(k) => header.gap(table, k),
+        Call::First => header.first(table),
+        Call::Last => header.last(table),
+        _ => header.audit(table),
+    }
+}
+
+// What a line did: the header after it, what its reply says, and how many words of the buffer are listed behind the reply.
+pub struct Heard {
+    pub header: Header,
+    pub said: Said,
+    pub listed: u32,
 }
 
 // The header after a line, and the place behind its reply.
@@ -86,37 +102,42 @@ pub fn answer(
         (now (out .entry)) at (now (out .exit)) (r .next) ⌝ }
 {
     let read = parse(line);
+    let heard = hear(read, header, table, words);
+    let n = heard.listed as usize;
+    let next = put_reply(out, at, lines + 1, heard.said);
+    let end = put_keys(out, next, &words[..n]);
+    told_of(heard, end)
+}
+
+fn hear(read: Line, header: Header, table: &mut [u32], words: &mut [u32]) -> Heard
+    ensures { λ r. ⌜ ((lines : ℕ) → Hears (answer (stateOf header (now (table .entry)) (now (words .entry)) lines) read) lines
+        r (now (table .exit)) (now (words .exit))) ⌝ }
+{
     match read {
-        Line::Read(call) => answer_call(call, lines, header, table, words, out, at),
-        Line::Unread => Told {
+        Line::Read(call) => heard_of(run(call, header, table, words)),
+        Line::Unread => Heard {
             header,
-            next: put_reply(out, at, lines + 1, not_read()),
+            said: not_read(),
+            listed: 0,
         },
     }
 }
 
-fn answer_call(
-    call: Call,
-    lines: u64,
-    header: Header,
-    table: &mut [u32],
-    words: &mut [u32],
-    out: &mut [u8],
-    at: usize,
-) -> Told
-    requires { ⌜ lines + 1 < 2 ^ 64 ⌝ }
-    requires { ⌜ at + 65 + 15 * length (now words) ≤ length (now out) ⌝ }
-    ensures { λ r. ⌜ Answers (answer (stateOf header (now (table .entry)) (now (words .entry)) lines) (Read call))
-        (stateOf (r .header) (now (table .exit)) (now (words .exit)) (lines + 1))
-        (now (out .entry)) at (now (out .exit)) (r .next) ⌝ }
+fn told_of(heard: Heard, next: usize) -> Told
+    ensures { λ r. ⌜ (r .header ≡ heard .header) × (r .next ≡ next) ⌝ }
 {
-    let ran = run(call, header, table, words);
+    let header = heard.header;
+    Told { header, next }
+}
+
+fn heard_of(ran: Ran) -> Heard
+    ensures { λ r. ⌜ r ≡ heardOf ran ⌝ }
+{
     let reply = ran.reply;
-    let after = reply.header;
-    let n = ran.listed as usize;
-    let next = put_reply(out, at, lines + 1, said(reply));
-    Told {
-        header: after,
-        next: put_keys(out, next, &words[..n]),
+    let header = reply.header;
+    Heard {
+        header,
+        said: said(reply),
+        listed: ran.listed,
     }
 }

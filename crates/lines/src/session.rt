@@ -1,18 +1,13 @@
 // A session takes its input in pieces: whole lines are answered, and what is left of a line is held until the next piece.
 
-use crate::answer::Told;
 use crate::answer::answer;
 use crate::gather::hold;
 use crate::gather::line_end;
 use pretree::Header;
 ghost use mathlib.Core.Path.{_≡_};
-ghost use mathlib.Core.List.{List, _++_};
-ghost use Prim.Native.Nat.{ℕ, _+_, _*_, _-_, _<_, _≤_, _^_};
+ghost use Prim.Native.Nat.{_+_, _*_, _-_, _<_, _≤_, _^_};
 ghost use lib.ListN.{length, take, drop};
-ghost use Rattle.lines.specs.Line.{parse};
-ghost use Rattle.lines.specs.Output.{answer};
-ghost use Rattle.lines.specs.Gather.{Held};
-ghost use Rattle.lines.specs.Answering.{stateOf, Answers, Fed, Moves};
+ghost use Rattle.lines.specs.Answering.{Fed, Moves};
 
 // What is kept between two pieces: the header, the lines that were answered, and how many bytes of a line are held.
 pub struct Session {
@@ -26,35 +21,6 @@ pub struct Went {
     pub session: Session,
     pub from: usize,
     pub next: usize,
-}
-
-// The line of which `session.held` bytes are held ends with this part. A line that lies in one piece is not copied.
-fn end_line(
-    session: Session,
-    part: &[u8],
-    table: &mut [u32],
-    words: &mut [u32],
-    buffer: &mut [u8],
-    out: &mut [u8],
-    at: usize,
-) -> Told
-    requires { ⌜ session .lines + 1 < 2 ^ 64 ⌝ }
-    requires { ⌜ at + 65 + 15 * length (now words) ≤ length (now out) ⌝ }
-    requires { ⌜ (length (now buffer) ≡ 65) × (session .held ≤ 65) ⌝ }
-    ensures { λ r. ⌜ ((line : List ℕ) → Held (now (buffer .entry)) (session .held) line
-        → Answers (answer (stateOf (session .header) (now (table .entry)) (now (words .entry)) (session .lines)) (parse (line ++ now (part .entry))))
-        (stateOf (r .header) (now (table .exit)) (now (words .exit)) (session .lines + 1))
-        (now (out .entry)) at (now (out .exit)) (r .next)) ⌝ }
-    ensures { λ r. ⌜ r .next ≤ length (now (out .exit)) ⌝ }
-{
-    let header = session.header;
-    let lines = session.lines;
-    let held = session.held;
-    if held == 0 {
-        return answer(part, lines, header, table, words, out, at);
-    }
-    let count = hold(buffer, held, part);
-    answer(&buffer[..count], lines, header, table, words, out, at)
 }
 
 // Goes on from the place `from` of a piece to the end of a line, or holds what is left of the piece.
@@ -80,9 +46,8 @@ fn step(
     let header = session.header;
     let lines = session.lines;
     let end = line_end(piece, from);
-    let part = &piece[from..end];
+    let held = hold(buffer, session.held, &piece[from..end]);
     if end == piece.len() {
-        let held = hold(buffer, session.held, part);
         return Went {
             session: Session {
                 header,
@@ -93,7 +58,7 @@ fn step(
             next: at,
         };
     }
-    let told = end_line(session, part, table, words, buffer, out, at);
+    let told = answer(&buffer[..held], lines, header, table, words, out, at);
     let after = told.header;
     Went {
         session: Session {

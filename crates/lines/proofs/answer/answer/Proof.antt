@@ -1,75 +1,53 @@
--- A line that is read is answered by its call, and any other by answer 9.
-use mathlib.Core.Path.{_≡_}
+-- The reply has room, and so has what is listed behind it.
+use mathlib.Core.Path.{sym}
 use native.Mathlib.Omega.{arith}
-use Rattle.lines.specs.declared.Line.the-variants.{Read, Unread}
-use Rattle.lines.specs.Line.{parse}
-use Rattle.lines.specs.Answering.{stateOf}
-use Rattle.lines.proofs.Running.{unread-answered}
+use lib.ListN.{length-take}
+use lib.Seq.{length-take-le}
 use borrow.Author.Needs.{needs}
+use Rattle.lines.specs.Answering.{stateOf}
+use Rattle.lines.proofs.Running.{heard-answered}
 use Rattle.lines.proofs.answer.answer.Statement.{statement}
 use Rattle.lines.proofs.answer.answer.Tie as tie
 
-parse-requires : tie.Need-parse-requires
-parse-requires c κs = search needs
+slice-reshare-prefix-put-keys : tie.Need-slice-reshare-prefix-put-keys
+slice-reshare-prefix-put-keys c = c .before .before .before .before .before .before .before .before .before .before .hear .ensures (c .before .before .before .before .before .before .before .before .before .before .before .before .before .before .before .before .before .before .args .lines) .within
 
-enum-known-read : tie.Need-enum-known-read
-enum-known-read c = search needs
+slice-aggregate-put-keys : tie.Need-slice-aggregate-put-keys
+slice-aggregate-put-keys c =
+    let h = c .before .before .before .before .before .before .before .before .before .before .before .hear in
+    sym (length-take-le (h .result .listed) (h .last .1 .1 .1 .0) (h .ensures (c .before .before .before .before .before .before .before .before .before .before .before .before .before .before .before .before .before .before .before .args .lines) .within))
 
-answer-call-requires : tie.Need-answer-call-requires
-answer-call-requires c κs = search needs
-
-enum-told : tie.Need-enum-told
-enum-told c = search needs
-
-add-put-reply : tie.Need-add-put-reply
-add-put-reply c = search needs
-
-not-read-requires : tie.Need-not-read-requires
-not-read-requires c κs = search needs
-
-put-reply-requires : tie.Need-put-reply-requires
-put-reply-requires c κs = search needs
-
-same-length : tie.Need-same-length
-same-length c = search needs
-
-same-length-2 : tie.Need-same-length-2
-same-length-2 c = search needs
-
-same-length-3 : tie.Need-same-length-3
-same-length-3 c = search needs
+put-keys-requires : tie.Need-put-keys-requires
+put-keys-requires c κs =
+    let h = c .before .before .before .before .before .before .before .before .before .before .before .hear in
+    let p = c .before .before .before .before .put-reply in
+    omega (arith, length-take (h .result .listed) (h .last .1 .1 .1 .0), h .kept .1 .1 .1 .0, p .kept .0, p .ensures .1, c .before .before .before .before .before .before .before .before .before .before .before .before .before .before .before .before .before .before .before .pre .1)
 
 returns : tie.Need-returns
 returns c =
-    let a = c .before .before .before .before .before .before .before .before .before .before .before .before .before .before .before .before .before .before .args in
-    let e : parse (a .line .now) ≡ Read (c .before .before .before .before .before .before .before .before .before .before .before .read .given .0 .0) = cc in
-    rw e (c .before .before .before .before .before .before .answer-call .ensures)
-
-same-length-4 : tie.Need-same-length-4
-same-length-4 c = search needs
-
-returns-2 : tie.Need-returns-2
-returns-2 c =
-    let a = c .before .before .before .before .before .before .before .before .before .before .before .before .args in
-    let e : parse (a .line .now) ≡ Unread = cc in
-    let put = rw (c .before .before .before .not-read .ensures) at (c .before .before .put-reply .ensures .0) in
-    rw e (unread-answered (stateOf (a .header) (a .table .now) (a .words .now) (a .lines)) put
-    (omega (arith, c .before .before .put-reply .ensures .1, c .before .before .put-reply .kept .0, c .before .before .before .before .before .before .before .before .before .before .before .before .pre)))
+    let a = c .before .before .before .before .before .before .before .before .before .before .before .before .before .before .before .before .before .before .before .before .before .before .before .args in
+    let h = c .before .before .before .before .before .before .before .before .before .before .before .before .before .before .before .hear in
+    let p = c .before .before .before .before .before .before .before .before .put-reply in
+    let k = c .before .before .before .put-keys in
+    let t = c .told-of .ensures in
+    rw (← c .before .before .before .before .before .before .before .before .before .before .before .before .before .before .before .before .before .before .parse .ensures)
+    (heard-answered (stateOf (a .header) (a .table .now) (a .words .now) (a .lines)) (c .before .before .before .before .before .before .before .before .before .before .before .before .before .before .before .before .before .before .parse .result) (h .ensures (a .lines)) (t .0) (p .ensures .0) (k .ensures .0) (t .1)
+    (omega (arith, t .1, length-take (h .result .listed) (h .last .1 .1 .1 .0), h .kept .1 .1 .1 .0, p .kept .0, p .ensures .1, k .kept .0, k .ensures .1, c .before .before .before .before .before .before .before .before .before .before .before .before .before .before .before .before .before .before .before .before .before .before .before .pre .1)))
 
 pub answer-spec : {M : Type 1} → statement M
 answer-spec =
     tie.close
     (tie.spec
-    parse-requires
-    enum-known-read
-    answer-call-requires
-    enum-told
-    add-put-reply
-    not-read-requires
-    put-reply-requires
-    same-length
-    same-length-2
-    same-length-3
-    returns
-    same-length-4
-    returns-2)
+    (λ c κs. tt)
+    (λ c κs. tt)
+    (λ c. search needs)
+    (λ c. omega (arith, c .before .before .before .before .before .before .before .before .before .before .before .before .before .before .pre .0))
+    (λ c κs. omega (arith, c .before .before .before .before .before .before .before .before .before .before .before .before .before .before .pre .1))
+    slice-reshare-prefix-put-keys
+    slice-aggregate-put-keys
+    put-keys-requires
+    (λ c κs. tt)
+    (λ c. c .before .before .before .before .before .before .before .before .before .before .before .before .before .before .before .hear .kept .1 .1 .0)
+    (λ c. c .before .before .before .before .before .before .before .before .before .before .before .before .before .before .before .hear .kept .1 .1 .1 .0)
+    (λ c. omega (arith, c .before .before .before .put-keys .kept .0, c .before .before .before .before .before .before .before .before .put-reply .kept .0))
+    returns)

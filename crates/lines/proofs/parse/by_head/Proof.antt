@@ -6,42 +6,8 @@ use Rattle.lines.specs.declared.parse.Word.the-variants as W
 use Rattle.lines.specs.Line.{after, if-nothing}
 use Rattle.lines.specs.Head.{byHead, numbered, numberedAfter, aloneAfter}
 use Rattle.lines.proofs.Heads.{only}
-use borrow.Author.Needs.{needs}
 use Rattle.lines.proofs.parse.by_head.Statement.{statement}
 use Rattle.lines.proofs.parse.by_head.Tie as tie
-
-numbered-requires : tie.Need-numbered-requires
-numbered-requires c κs = search needs
-
-numbered-requires-2 : tie.Need-numbered-requires-2
-numbered-requires-2 c κs = search needs
-
-numbered-requires-3 : tie.Need-numbered-requires-3
-numbered-requires-3 c κs = search needs
-
-numbered-requires-4 : tie.Need-numbered-requires-4
-numbered-requires-4 c κs = search needs
-
-numbered-requires-5 : tie.Need-numbered-requires-5
-numbered-requires-5 c κs = search needs
-
-numbered-after-requires : tie.Need-numbered-after-requires
-numbered-after-requires c κs = search needs
-
-numbered-after-requires-2 : tie.Need-numbered-after-requires-2
-numbered-after-requires-2 c κs = search needs
-
-alone-requires : tie.Need-alone-requires
-alone-requires c κs = search needs
-
-alone-requires-2 : tie.Need-alone-requires-2
-alone-requires-2 c κs = search needs
-
-alone-after-requires : tie.Need-alone-after-requires
-alone-after-requires c κs = search needs
-
-alone-after-requires-2 : tie.Need-alone-after-requires-2
-alone-after-requires-2 c κs = search needs
 
 returns : tie.Need-returns
 unfolding byHead after numbered
@@ -95,17 +61,17 @@ pub by-head-spec : {M : Type 1} → statement M
 by-head-spec =
     tie.close
     (tie.spec
-    numbered-requires
-    numbered-requires-2
-    numbered-requires-3
-    numbered-requires-4
-    numbered-requires-5
-    numbered-after-requires
-    numbered-after-requires-2
-    alone-requires
-    alone-requires-2
-    alone-after-requires
-    alone-after-requires-2
+    (λ c κs. tt)
+    (λ c κs. tt)
+    (λ c κs. tt)
+    (λ c κs. tt)
+    (λ c κs. tt)
+    (λ c κs. tt)
+    (λ c κs. tt)
+    (λ c κs. tt)
+    (λ c κs. tt)
+    (λ c κs. tt)
+    (λ c κs. tt)
     returns
     returns-2
     returns-3

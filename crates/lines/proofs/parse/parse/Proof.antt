@@ -4,7 +4,6 @@ use mathlib.Core.Path.{sym}
 use native.Mathlib.Omega.{arith}
 use lib.ListN.{getD}
 use Rattle.lines.proofs.Heads.{short-unread, long-unread, by-head, rest-of}
-use borrow.Author.Needs.{needs}
 use Rattle.lines.proofs.parse.parse.Statement.{statement}
 use Rattle.lines.proofs.parse.parse.Tie as tie
 
@@ -13,33 +12,6 @@ returns c = sym (short-unread (c .before .before .args .line .now) (c .if1 .take
 
 returns-2 : tie.Need-returns-2
 returns-2 c = sym (long-unread (c .before .before .before .args .line .now) (c .if2 .taken))
-
-shared-slice-read-packed : tie.Need-shared-slice-read-packed
-shared-slice-read-packed c = search needs
-
-shared-slice-read-packed-2 : tie.Need-shared-slice-read-packed-2
-shared-slice-read-packed-2 c = search needs
-
-shared-slice-read-packed-3 : tie.Need-shared-slice-read-packed-3
-shared-slice-read-packed-3 c = search needs
-
-shared-slice-read-packed-4 : tie.Need-shared-slice-read-packed-4
-shared-slice-read-packed-4 c = search needs
-
-packed-requires : tie.Need-packed-requires
-packed-requires c κs = search needs
-
-sub-by-head : tie.Need-sub-by-head
-sub-by-head c = search needs
-
-part-by-head-start : tie.Need-part-by-head-start
-part-by-head-start c = search needs
-
-part-by-head-end : tie.Need-part-by-head-end
-part-by-head-end c = search needs
-
-by-head-requires : tie.Need-by-head-requires
-by-head-requires c κs = search needs
 
 returns-3 : tie.Need-returns-3
 returns-3 c =
@@ -53,13 +25,13 @@ parse-spec =
     (tie.spec
     returns
     returns-2
-    shared-slice-read-packed
-    shared-slice-read-packed-2
-    shared-slice-read-packed-3
-    shared-slice-read-packed-4
-    packed-requires
-    sub-by-head
-    part-by-head-start
-    part-by-head-end
-    by-head-requires
+    (λ c. omega (arith, c .before .before .if1 .left))
+    (λ c. omega (arith, c .before .before .before .if1 .left))
+    (λ c. omega (arith, c .before .before .before .before .if1 .left))
+    (λ c. omega (arith, c .before .before .before .before .before .if1 .left))
+    (λ c κs. tt)
+    (λ c. omega (arith, c .before .before .before .before .before .before .if1 .left))
+    (λ c. omega (arith, c .before .before .before .before .before .before .if1 .left))
+    (λ c. omega arith)
+    (λ c κs. tt)
     returns-3)

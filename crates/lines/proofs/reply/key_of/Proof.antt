@@ -1,109 +1,18 @@
--- Each kind of answer has its key.
+-- A word and a distance are their own keys.
 use Rattle.pretree.specs.Answer.{keyOf}
-use borrow.Author.Needs.{needs}
+use Rattle.lines.proofs.Keys.{no-key}
 use Rattle.lines.proofs.reply.key_of.Statement.{statement}
 use Rattle.lines.proofs.reply.key_of.Tie as tie
 
-enum-told : tie.Need-enum-told
-enum-told c = search needs
-
-enum-known-answer : tie.Need-enum-known-answer
-enum-known-answer c = search needs
-
-enum-known-answer-2 : tie.Need-enum-known-answer-2
-enum-known-answer-2 c = search needs
-
-enum-told-2 : tie.Need-enum-told-2
-enum-told-2 c = search needs
-
-enum-told-3 : tie.Need-enum-told-3
-enum-told-3 c = search needs
-
-enum-told-4 : tie.Need-enum-told-4
-enum-told-4 c = search needs
-
-enum-told-5 : tie.Need-enum-told-5
-enum-told-5 c = search needs
-
-enum-told-6 : tie.Need-enum-told-6
-enum-told-6 c = search needs
-
-enum-told-7 : tie.Need-enum-told-7
-enum-told-7 c = search needs
-
-enum-told-8 : tie.Need-enum-told-8
-enum-told-8 c = search needs
-
-enum-told-9 : tie.Need-enum-told-9
-enum-told-9 c = search needs
-
 returns : tie.Need-returns
 unfolding keyOf
-returns c = rw (c .enum-told .given .1)
+returns c = rw (c .before .answer .given .1)
 
 returns-2 : tie.Need-returns-2
 unfolding keyOf
-returns-2 c = rw (c .before .answer .given .1)
-
-returns-3 : tie.Need-returns-3
-unfolding keyOf
-returns-3 c = rw (c .before .answer2 .given .1)
-
-returns-4 : tie.Need-returns-4
-unfolding keyOf
-returns-4 c = rw (c .enum-told2 .given .1)
-
-returns-5 : tie.Need-returns-5
-unfolding keyOf
-returns-5 c = rw (c .enum-told3 .given .1)
-
-returns-6 : tie.Need-returns-6
-unfolding keyOf
-returns-6 c = rw (c .enum-told4 .given .1)
-
-returns-7 : tie.Need-returns-7
-unfolding keyOf
-returns-7 c = rw (c .enum-told5 .given .1)
-
-returns-8 : tie.Need-returns-8
-unfolding keyOf
-returns-8 c = rw (c .enum-told6 .given .1)
-
-returns-9 : tie.Need-returns-9
-unfolding keyOf
-returns-9 c = rw (c .enum-told7 .given .1)
-
-returns-10 : tie.Need-returns-10
-unfolding keyOf
-returns-10 c = rw (c .enum-told8 .given .1)
-
-returns-11 : tie.Need-returns-11
-unfolding keyOf
-returns-11 c = rw (c .enum-told9 .given .1)
+returns-2 c = rw (c .before .answer2 .given .1)
 
 pub key-of-spec : {M : Type 1} → statement M
 key-of-spec =
     tie.close
-    (tie.spec
-    enum-told
-    enum-known-answer
-    enum-known-answer-2
-    enum-told-2
-    enum-told-3
-    enum-told-4
-    enum-told-5
-    enum-told-6
-    enum-told-7
-    enum-told-8
-    enum-told-9
-    returns
-    returns-2
-    returns-3
-    returns-4
-    returns-5
-    returns-6
-    returns-7
-    returns-8
-    returns-9
-    returns-10
-    returns-11)
+    (tie.spec (λ c. c .match .keys1) (λ c. c .match .keys2) returns returns-2 (λ c. rw (no-key (c .before .args .answer) (c .match .keys3))))
