@@ -46,11 +46,11 @@ run-spec =
     (λ c κs. tt)
     (λ c κs. tt)
     (λ c κs. tt)
-    (λ c. search needs)
+    (λ c. c .before .before .before .new .kept .1 .0)
     returns
-    (λ c. search needs)
+    (λ c. c .before .before .before .add .kept .1 .0)
     returns-2
-    (λ c. search needs)
+    (λ c. c .before .before .before .del .kept .1 .0)
     returns-3
     (λ c. search needs)
     (λ c. search needs)

@@ -19,18 +19,15 @@ abbrev μ-loop : tie.MeasureT-loop
 μ-loop digits n value₀ i₀ value i = n - i
 
 returns : tie.Need-returns Inv-loop μ-loop
-returns c = rw (none-given (c .before .args .digits .now) (search needs))
+returns c = rw (none-given (c .before .args .digits .now) (c .if1 .taken))
 
 returns-2 : tie.Need-returns-2 Inv-loop μ-loop
-returns-2 c = rw (too-many (c .before .before .args .digits .now) (search needs))
-
-shared-slice-read-if4 : tie.Need-shared-slice-read-if4 Inv-loop μ-loop
-shared-slice-read-if4 c = search needs
+returns-2 c = rw (too-many (c .before .before .args .digits .now) (c .if2 .taken))
 
 returns-3 : tie.Need-returns-3 Inv-loop μ-loop
 returns-3 c =
     let ds = c .before .before .before .before .before .args .digits .now in
-    let zero : leadsWithZero ds ≡ true = digits-more ds (search needs) ∙ eq-eqb _ _ (c .if4 .taken) in
+    let zero : leadsWithZero ds ≡ true = digits-more ds (c .before .before .if3 .taken) ∙ eq-eqb _ _ (c .if4 .taken) in
     rw (zero-leads ds (omega arith) (omega arith) zero)
 
 loop-holds : tie.Need-loop-holds Inv-loop μ-loop
@@ -40,41 +37,26 @@ loop-holds c =
     ⊎-elim (λ w. digits-more ds (w .0 .taken) ∙ ne-eqb _ _ (w .2 .left)) (λ w. one-digit ds (w .left)) (c .if3 .came) in
     begun ds (omega arith) (omega arith) plain
 
-shared-slice-read-d : tie.Need-shared-slice-read-d Inv-loop μ-loop
-shared-slice-read-d c = search needs
-
 returns-4 : tie.Need-returns-4 Inv-loop μ-loop
 returns-4 c =
-    rw (stopped (c .before .before .before .loop .inv) (search needs) (simp (lt-leb 48 _ (c .if5 .taken))))
+    rw (stopped (c .before .before .before .loop .inv) (c .before .before .loop-test .taken) (simp (lt-leb 48 _ (c .if5 .taken))))
 
 returns-5 : tie.Need-returns-5 Inv-loop μ-loop
 returns-5 c =
     rw
-    (stopped (c .before .before .before .before .loop .inv) (search needs) (simp (le-leb 48 _ (c .before .if5 .left), lt-leb _ 57 (c .if6 .taken))))
+    (stopped (c .before .before .before .before .loop .inv) (c .before .before .before .loop-test .taken) (simp (le-leb 48 _ (c .before .if5 .left), lt-leb _ 57 (c .if6 .taken))))
 
 mul-value : tie.Need-mul-value Inv-loop μ-loop
-mul-value c = omega (arith, fits-on (c .before .before .before .before .loop .inv) (search needs))
-
-cast-value : tie.Need-cast-value Inv-loop μ-loop
-cast-value c = omega arith
+mul-value c = omega (arith, fits-on (c .before .before .before .before .loop .inv) (c .before .before .before .loop-test .taken))
 
 add-value : tie.Need-add-value Inv-loop μ-loop
-add-value c = omega (arith, fits-on (c .before .before .before .before .loop .inv) (search needs))
-
-add-i : tie.Need-add-i Inv-loop μ-loop
-add-i c = search needs
-
-loop-less : tie.Need-loop-less Inv-loop μ-loop
-loop-less c = search needs
+add-value c = omega (arith, fits-on (c .before .before .before .before .loop .inv) (c .before .before .before .loop-test .taken))
 
 loop-again : tie.Need-loop-again Inv-loop μ-loop
-loop-again c = gone-on (c .before .before .before .before .loop .inv) (search needs) (c .before .if5 .left) (c .if6 .left)
+loop-again c = gone-on (c .before .before .before .before .loop .inv) (c .before .before .before .loop-test .taken) (c .before .if5 .left) (c .if6 .left)
 
 returns-6 : tie.Need-returns-6 Inv-loop μ-loop
 returns-6 c = rw (over (c .before .before .loop .inv) (c .before .loop-test .left) (c .if7 .taken))
-
-cast-t15 : tie.Need-cast-t15 Inv-loop μ-loop
-cast-t15 c = search needs
 
 returns-7 : tie.Need-returns-7 Inv-loop μ-loop
 returns-7 c = rw (complete (c .before .before .loop .inv) (c .before .loop-test .left) (c .if7 .left))
@@ -87,18 +69,18 @@ number-spec =
     μ-loop
     returns
     returns-2
-    shared-slice-read-if4
+    (λ c. omega (arith, c .before .if3 .taken))
     returns-3
     loop-holds
-    shared-slice-read-d
+    (λ c. search needs)
     returns-4
     returns-5
     mul-value
-    cast-value
+    (λ c. omega arith)
     add-value
-    add-i
-    loop-less
+    (λ c. search needs)
+    (λ c. search needs)
     loop-again
     returns-6
-    cast-t15
+    (λ c. search needs)
     returns-7)
