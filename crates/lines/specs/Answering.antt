@@ -11,6 +11,7 @@ use Rattle.lines.specs.declared.Call.{Call}
 use Rattle.lines.specs.declared.Call.the-variants.{New, Add, Del, Has, Next, Prev, Gap, First, Last, Audit}
 use Rattle.lines.specs.declared.answer.Ran.{Ran}
 use Rattle.lines.specs.declared.answer.Heard.{Heard}
+use Rattle.lines.specs.declared.answer.Told.{Told}
 use Rattle.lines.specs.declared.session.Session.{Session as Kept}
 use Rattle.lines.specs.declared.session.Went.{Went}
 use Rattle.lines.specs.Render.{saidOf, replyLine, keyLines, Put}
@@ -56,6 +57,10 @@ pub record Answers (s : Step) (after : State) (out : List ℕ) (at : ℕ) (left 
   pub state : after ≡ s .state
   pub put : Put out at (s .written) left next
   pub fits : next ≤ length left
+
+-- what a session is behind a line that ended
+abbrev pub lineEnded : Told → ℕ → ℕ → Went
+lineEnded t lines from = record { session = record { header = t .header; lines = lines; held = 0 }; from = from; next = t .next }
 
 -- an input was taken in: the state is the one after it, the bytes of the line that has not ended are held, and what is told was put
 pub record Feeds (s : Session) (input : List ℕ) (after : State) (buffer : List ℕ) (count : ℕ) (out : List ℕ) (at : ℕ) (left : List ℕ) (next : ℕ)

@@ -1,5 +1,6 @@
 // A session takes its input in pieces: whole lines are answered, and what is left of a line is held until the next piece.
 
+use crate::answer::Told;
 use crate::answer::answer;
 use crate::gather::hold;
 use crate::gather::line_end;
@@ -7,7 +8,7 @@ use pretree::Header;
 ghost use mathlib.Core.Path.{_≡_};
 ghost use Prim.Native.Nat.{_+_, _*_, _-_, _<_, _≤_, _^_};
 ghost use lib.ListN.{length, take, drop};
-ghost use Rattle.lines.specs.Answering.{Fed, Moves};
+ghost use Rattle.lines.specs.Answering.{lineEnded, Fed, Moves};
 
 // What is kept between two pieces: the header, the lines that were answered, and how many bytes of a line are held.
 pub struct Session {
@@ -43,30 +44,43 @@ fn step(
         r (now (table .exit)) (now (words .exit)) (now (buffer .exit)) (now (out .exit)) ⌝ }
     ensures { λ r. ⌜ Moves from (length (now (piece .entry))) (length (now (out .exit))) session r ⌝ }
 {
-    let header = session.header;
     let lines = session.lines;
     let end = line_end(piece, from);
     let held = hold(buffer, session.held, &piece[from..end]);
     if end == piece.len() {
+        let mut kept = session;
+        kept.held = held;
         return Went {
-            session: Session {
-                header,
-                lines,
-                held,
-            },
+            session: kept,
             from: end,
             next: at,
         };
     }
-    let told = answer(&buffer[..held], lines, header, table, words, out, at);
-    let after = told.header;
+    let told = answer(
+        &buffer[..held],
+        lines,
+        session.header,
+        table,
+        words,
+        out,
+        at,
+    );
+    ended(told, lines + 1, end + 1)
+}
+
+// A line has ended, and none has begun. A function of its own, since a struct that is read out of a struct beside lent slices makes the
+// check of the whole function dear; so are `told_of` and `spoke_of`.
+fn ended(told: Told, lines: u64, from: usize) -> Went
+    ensures { λ r. ⌜ r ≡ lineEnded told lines from ⌝ }
+{
+    let header = told.header;
     Went {
         session: Session {
-            header: after,
-            lines: lines + 1,
+            header,
+            lines,
             held: 0,
         },
-        from: end + 1,
+        from,
         next: told.next,
     }
 }

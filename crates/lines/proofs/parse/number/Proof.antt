@@ -22,7 +22,7 @@ returns : tie.Need-returns Inv-loop μ-loop
 returns c = rw (none-given (c .before .args .digits .now) (c .if1 .taken))
 
 returns-2 : tie.Need-returns-2 Inv-loop μ-loop
-returns-2 c = rw (too-many (c .before .before .args .digits .now) (c .if2 .taken))
+returns-2 c = rw (too-many (c .before .before .args .digits .now) (omega (arith, c .if2 .taken)))
 
 returns-3 : tie.Need-returns-3 Inv-loop μ-loop
 returns-3 c =

@@ -8,13 +8,13 @@ use Rattle.lines.proofs.session.step.Tie as tie
 
 part-hold-end : tie.Need-part-hold-end
 part-hold-end c =
-    let a = c .before .before .before .before .before .before .before .before .args in
-    end-within (a .piece .now) (a .from) (c .before .line-end .result) (c .before .line-end .ensures) (c .before .before .before .before .before .before .before .before .pre .1 .1 .1)
+    let a = c .before .before .before .before .before .before .before .args in
+    end-within (a .piece .now) (a .from) (c .before .line-end .result) (c .before .line-end .ensures) (c .before .before .before .before .before .before .before .pre .1 .1 .1)
 
 returns : tie.Need-returns
 returns c =
-    let a = c .before .before .before .before .before .before .before .before .before .before .before .before .before .args in
-    let pre = c .before .before .before .before .before .before .before .before .before .before .before .before .before .pre in
+    let a = c .before .before .before .before .before .before .before .before .before .before .before .before .args in
+    let pre = c .before .before .before .before .before .before .before .before .before .before .before .before .pre in
     let e = c .before .before .before .before .before .before .line-end in
     let h = c .before .before .before .hold in (
       steps-part (a .piece .now) (a .from) (e .result) (e .ensures) (pre .1 .1 .1) (a .session) (pre .1 .1 .0 .0) (pre .1 .1 .0 .1) (h .ensures) (a .table .now) (a .words .now) (a .out .now) (a .at) (c .if1 .taken),
@@ -23,8 +23,8 @@ returns c =
 
 slice-reshare-prefix-answer : tie.Need-slice-reshare-prefix-answer
 slice-reshare-prefix-answer c =
-    let a = c .before .before .before .before .before .before .before .before .before .before .before .before .before .args in
-    let pre = c .before .before .before .before .before .before .before .before .before .before .before .before .before .pre in
+    let a = c .before .before .before .before .before .before .before .before .before .before .before .before .args in
+    let pre = c .before .before .before .before .before .before .before .before .before .before .before .before .pre in
     let e = c .before .before .before .before .before .before .line-end in
     let h = c .before .before .before .hold in
     omega (arith, held-within (a .piece .now) (a .from) (e .result) (e .ensures) (pre .1 .1 .1) (a .session) (pre .1 .1 .0 .0) (pre .1 .1 .0 .1) (h .ensures), h .kept .0, pre .1 .1 .0 .0)
@@ -34,12 +34,13 @@ slice-aggregate-answer c = sym (length-take-le (c .before .before .before .befor
 
 returns-2 : tie.Need-returns-2
 returns-2 c =
-    let a = c .before .before .before .before .before .before .before .before .before .before .before .before .before .before .before .before .before .before .before .before .before .before .before .before .before .args in
-    let pre = c .before .before .before .before .before .before .before .before .before .before .before .before .before .before .before .before .before .before .before .before .before .before .before .before .before .pre in
+    let a = c .before .before .before .before .before .before .before .before .before .before .before .before .before .before .before .before .before .before .before .before .before .before .before .before .args in
+    let pre = c .before .before .before .before .before .before .before .before .before .before .before .before .before .before .before .before .before .before .before .before .before .before .before .before .pre in
     let e = c .before .before .before .before .before .before .before .before .before .before .before .before .before .before .before .before .before .before .line-end in
     let h = c .before .before .before .before .before .before .before .before .before .before .before .before .before .before .before .hold in
     let r = c .before .before .before .before .before .before .before .answer .ensures in
-    let more = c .before .before .before .before .before .before .before .before .before .before .before .before .if1 .left in (
+    let more = c .before .before .before .before .before .before .before .before .before .before .before .before .if1 .left in
+    rw (c .ended .ensures) (
       steps-line (a .piece .now) (a .from) (e .result) (e .ensures) (pre .1 .1 .1) (a .session) (pre .1 .1 .0 .0) (pre .1 .1 .0 .1) (h .ensures) (a .table .now) (a .words .now) (a .out .now) (a .at) more r,
       line-moves (a .piece .now) (a .from) (e .result) (e .ensures) (pre .1 .1 .1) (a .session) (pre .1 .1 .0 .0) (pre .1 .1 .0 .1) (h .ensures) (a .table .now) (a .words .now) (a .out .now) (a .at) more r,
     )
@@ -48,18 +49,19 @@ pub step-spec : {M : Type 1} → statement M
 step-spec =
     tie.close
     (tie.spec
-    (λ c κs. omega (arith, c .before .before .before .before .before .before .pre .1 .1 .1))
+    (λ c κs. omega (arith, c .before .before .before .before .before .pre .1 .1 .1))
     (λ c. omega (arith, c .before .line-end .ensures))
     (λ c. omega (arith, c .before .line-end .ensures))
     part-hold-end
-    (λ c κs. omega (arith, c .before .before .before .before .before .before .before .before .before .pre .1 .1 .0))
+    (λ c κs. omega (arith, c .before .before .before .before .before .before .before .before .pre .1 .1 .0))
     (λ c. c .before .before .before .hold .kept .0)
     returns
     slice-reshare-prefix-answer
     slice-aggregate-answer
-    (λ c κs. (c .before .before .before .before .before .before .before .before .before .before .before .before .before .before .before .before .before .pre .0, c .before .before .before .before .before .before .before .before .before .before .before .before .before .before .before .before .before .pre .1 .0))
-    (λ c. omega (arith, c .before .before .before .before .before .before .before .before .before .before .before .before .before .before .before .before .before .before .before .before .before .before .before .before .before .pre .0))
-    (λ c. omega (arith, end-within (c .before .before .before .before .before .before .before .before .before .before .before .before .before .before .before .before .before .before .before .before .before .before .before .before .before .args .piece .now) (c .before .before .before .before .before .before .before .before .before .before .before .before .before .before .before .before .before .before .before .before .before .before .before .before .before .args .from) (c .before .before .before .before .before .before .before .before .before .before .before .before .before .before .before .before .before .before .line-end .result) (c .before .before .before .before .before .before .before .before .before .before .before .before .before .before .before .before .before .before .line-end .ensures) (c .before .before .before .before .before .before .before .before .before .before .before .before .before .before .before .before .before .before .before .before .before .before .before .before .before .pre .1 .1 .1), c .before .before .before .before .before .before .before .before .before .before .before .before .before .before .before .before .before .before .before .before .before .before .before .before .before .good))
+    (λ c κs. (c .before .before .before .before .before .before .before .before .before .before .before .before .before .before .before .before .pre .0, c .before .before .before .before .before .before .before .before .before .before .before .before .before .before .before .before .pre .1 .0))
+    (λ c. omega (arith, c .before .before .before .before .before .before .before .before .before .before .before .before .before .before .before .before .before .before .before .before .before .before .before .pre .0))
+    (λ c. omega (arith, end-within (c .before .before .before .before .before .before .before .before .before .before .before .before .before .before .before .before .before .before .before .before .before .before .before .args .piece .now) (c .before .before .before .before .before .before .before .before .before .before .before .before .before .before .before .before .before .before .before .before .before .before .before .args .from) (c .before .before .before .before .before .before .before .before .before .before .before .before .before .before .before .before .before .line-end .result) (c .before .before .before .before .before .before .before .before .before .before .before .before .before .before .before .before .before .line-end .ensures) (c .before .before .before .before .before .before .before .before .before .before .before .before .before .before .before .before .before .before .before .before .before .before .before .pre .1 .1 .1), c .before .before .before .before .before .before .before .before .before .before .before .before .before .before .before .before .before .before .before .before .before .before .before .good))
+    (λ c κs. tt)
     (λ c. c .before .before .before .before .before .before .before .answer .kept .1 .1 .1 .0)
     (λ c. c .before .before .before .before .before .before .before .answer .kept .1 .1 .1 .1 .0)
     (λ c. c .before .before .before .before .before .before .before .before .before .before .before .before .before .before .before .hold .kept .0)
