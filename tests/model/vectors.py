@@ -3,7 +3,7 @@
     python3 vectors.py SEED OUTDIR
 
 The same seed gives the same bytes: the only dice are damage.py's generator, started
-for each file with SEED, and the file's place in the list below after it.
+for each part with SEED, and the part's place in the list below after it.
 """
 import os
 import sys
@@ -229,26 +229,22 @@ def no_end(g):
     return mixed(g, 8, [1, 2, 3], 20, True) + [op("new", 8), op("add", 7), b"", op("list")]
 
 
-# Name, lines, whether the last line has its byte 10.
+# Name, the parts of which its lines are made, whether the last line has its byte 10. A part begins with the set that the one before it left.
 FILES = [
-    ("vectors_w1", lambda g: small(g, 1, 400), True),
-    ("vectors_w2", lambda g: small(g, 2, 600), False),
-    ("vectors_w3", lambda g: small(g, 3, 900), True),
-    ("vectors_w8", width8, True),
-    ("vectors_w31", width31, True),
-    ("vectors_w32", width32, True),
-    ("vectors_w32r", width32_reversed, True),
-    ("vectors_new", new_in_the_middle, True),
-    ("vectors_wild", wild, True),
-    ("vectors_end", no_end, False),
+    ("vectors_small", [lambda g: small(g, 1, 400), lambda g: small(g, 3, 900), width8, lambda g: small(g, 2, 600)], False),
+    ("vectors_large", [width31, width32, width32_reversed], True),
+    ("vectors_wild", [new_in_the_middle, wild, no_end], False),
 ]
 
 
 def main(seed, outdir):
     os.makedirs(outdir, exist_ok=True)
-    total = 0
-    for place, (name, make, ended) in enumerate(FILES):
-        made = make(Dice(seed * 1000 + place))
+    total = place = 0
+    for name, parts, ended in FILES:
+        made = []
+        for make in parts:
+            made += make(Dice(seed * 1000 + place))
+            place += 1
         data = b"\n".join(made) + (b"\n" if ended else b"")
         out = lines.run(data)
         total += len(made)

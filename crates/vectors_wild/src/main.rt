@@ -1,4 +1,4 @@
-// The line program on lines that are not read, of up to 6,400 bytes, among readable ones. Input and output are those of tests/model/vectors.py with the seed 1.
+// The line program on `new` in the middle, wild lines, and a last line that has no byte 10. Input and output are those of tests/model/vectors.py with the seed 1.
 
 fn main() {
     lines::run();
