@@ -18,36 +18,48 @@ fn main() {
 fn starred_a() {
     let a: [u32; 12] = [4, 0, 1, 8, 2, 3, 11, 0, 0, 15, 0, 0];
     let h = Header { width: 4, count: 4 };
-    told(b"has 11", h.has(&a, 11));
-    told(b"has 9", h.has(&a, 9));
-    told(b"prev 4", h.prev(&a, 4));
-    told(b"next 9", h.next(&a, 9));
-    told(b"next 15", h.next(&a, 15));
-    told(b"next 11", h.next(&a, 11));
-    told(b"prev 9", h.prev(&a, 9));
-    told(b"prev 15", h.prev(&a, 15));
-    told(b"gap 9", h.gap(&a, 9));
-    told(b"gap 0", h.gap(&a, 0));
-    told(b"gap 8", h.gap(&a, 8));
-    told(b"first", h.first(&a));
-    told(b"last", h.last(&a));
+    words_of_a(h, &a);
+    neighbours_in_a(h, &a);
+    gaps_in_a(h, &a);
+}
+
+fn words_of_a(h: Header, a: &[u32]) {
+    has(h, a, 11);
+    has(h, a, 9);
+    prev(h, a, 4);
+    next(h, a, 9);
+}
+
+fn neighbours_in_a(h: Header, a: &[u32]) {
+    next(h, a, 15);
+    next(h, a, 11);
+    prev(h, a, 9);
+    prev(h, a, 15);
+}
+
+fn gaps_in_a(h: Header, a: &[u32]) {
+    gap(h, a, 9);
+    gap(h, a, 0);
+    gap(h, a, 8);
+    first(h, a);
+    last(h, a);
 }
 
 // "*B `prev` 4: 3, 5 rows. *B `next` 3: 4, 5 rows. *B `last`: 4, 2 rows."
 fn starred_b() {
     let b: [u32; 15] = [0, 1, 4, 1, 0, 2, 2, 0, 3, 3, 0, 0, 4, 0, 0];
     let h = Header { width: 3, count: 5 };
-    told(b"prev 4", h.prev(&b, 4));
-    told(b"next 3", h.next(&b, 3));
-    told(b"last", h.last(&b));
+    prev(h, &b, 4);
+    next(h, &b, 3);
+    last(h, &b);
 }
 
 // "*C `prev` 1: 0, 2 rows. C `has` 1: 2 rows."
 fn starred_c() {
     let c: [u32; 6] = [0, 0, 1, 1, 0, 0];
     let h = Header { width: 1, count: 2 };
-    told(b"prev 1", h.prev(&c, 1));
-    told(b"has 1", h.has(&c, 1));
+    prev(h, &c, 1);
+    has(h, &c, 1);
 }
 
 // "W 32 takes 4,294,967,295. W 4 takes 15, refuses 16."
@@ -57,60 +69,105 @@ fn widest() {
         width: 32,
         count: 1,
     };
-    told(b"has 4294967295", h.has(&t, 4294967295));
-    told(b"next 4294967295", h.next(&t, 4294967295));
-    told(b"gap 0", h.gap(&t, 0));
+    has(h, &t, 4294967295);
+    next(h, &t, 4294967295);
+    gap(h, &t, 0);
     let four = Header { width: 4, count: 0 };
-    told(b"has 15", four.has(&t, 15));
-    told(b"has 16", four.has(&t, 16));
+    has(four, &t, 15);
+    has(four, &t, 16);
 }
 
 // "One row 4, 0, 9 with W 4 and count 1: `has` 4 found, 1 row; `has` 8 answers 4"
 fn one_row() {
     let t: [u32; 3] = [4, 0, 9];
     let h = Header { width: 4, count: 1 };
-    told(b"has 4", h.has(&t, 4));
-    told(b"has 8", h.has(&t, 8));
-    told(b"has 3", h.has(&t, 3));
-    told(b"next 3", h.next(&t, 3));
-    told(b"next 4", h.next(&t, 4));
-    told(b"prev 8", h.prev(&t, 8));
-    told(b"last", h.last(&t));
-    told(b"first", h.first(&t));
-    told(b"gap 3", h.gap(&t, 3));
-    told(b"gap 5", h.gap(&t, 5));
+    words_of_one(h, &t);
+    neighbours_in_one(h, &t);
+    gap(h, &t, 3);
+    gap(h, &t, 5);
+}
+
+fn words_of_one(h: Header, t: &[u32]) {
+    has(h, t, 4);
+    has(h, t, 8);
+    has(h, t, 3);
+}
+
+fn neighbours_in_one(h: Header, t: &[u32]) {
+    next(h, t, 3);
+    next(h, t, 4);
+    prev(h, t, 8);
+    last(h, t);
+    first(h, t);
 }
 
 fn empty() {
     let t: [u32; 3] = [9, 9, 9];
     let h = Header::fresh(4);
-    told(b"has 3", h.has(&t, 3));
-    told(b"next 3", h.next(&t, 3));
-    told(b"prev 3", h.prev(&t, 3));
-    told(b"first", h.first(&t));
-    told(b"last", h.last(&t));
-    told(b"gap 3", h.gap(&t, 3));
+    has(h, &t, 3);
+    next(h, &t, 3);
+    prev(h, &t, 3);
+    first(h, &t);
+    last(h, &t);
+    gap(h, &t, 3);
 }
 
 // "Order: 9, 1, 2, 3, 4": a wrong header goes before a word that is too wide, and that before damage
 fn refusals() {
     let t: [u32; 5] = [16, 0, 0, 0, 0];
+    wrong_headers(&t);
+    let damaged = Header { width: 4, count: 1 };
+    prev(damaged, &t, 16);
+    gap(damaged, &t, 3);
+    last(damaged, &t);
+}
+
+fn wrong_headers(t: &[u32]) {
     let wide = Header {
         width: 33,
         count: 0,
     };
-    let many = Header { width: 4, count: 2 };
-    let damaged = Header { width: 4, count: 1 };
-    told(b"has 16", wide.has(&t, 16));
-    told(b"first", wide.first(&t));
-    told(b"next 16", many.next(&t, 16));
-    told(b"prev 16", damaged.prev(&t, 16));
-    told(b"gap 3", damaged.gap(&t, 3));
-    told(b"last", damaged.last(&t));
+    has(wide, t, 16);
+    first(wide, t);
+    next(Header { width: 4, count: 2 }, t, 16);
 }
 
-fn told(call: &[u8], reply: Reply) {
+fn has(h: Header, t: &[u32], k: u32) {
+    asked(b"has ", k);
+    told(h.has(t, k));
+}
+
+fn next(h: Header, t: &[u32], k: u32) {
+    asked(b"next ", k);
+    told(h.next(t, k));
+}
+
+fn prev(h: Header, t: &[u32], k: u32) {
+    asked(b"prev ", k);
+    told(h.prev(t, k));
+}
+
+fn gap(h: Header, t: &[u32], k: u32) {
+    asked(b"gap ", k);
+    told(h.gap(t, k));
+}
+
+fn first(h: Header, t: &[u32]) {
+    io::write_all(STDOUT_FILENO, b"first");
+    told(h.first(t));
+}
+
+fn last(h: Header, t: &[u32]) {
+    io::write_all(STDOUT_FILENO, b"last");
+    told(h.last(t));
+}
+
+fn asked(call: &[u8], k: u32) {
     io::write_all(STDOUT_FILENO, call);
+    io::print_decimal(STDOUT_FILENO, k as u64);
+}
+
+fn told(reply: Reply) {
     let answer = reply.answer;
     io::write_all(STDOUT_FILENO, b": ");
     answered(answer);
