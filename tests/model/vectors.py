@@ -237,21 +237,28 @@ FILES = [
 ]
 
 
-def main(seed, outdir):
-    os.makedirs(outdir, exist_ok=True)
-    total = place = 0
+def made_by(seed):
+    """Of each file, for a seed: its name, its lines, and what ends the last of them."""
+    place = 0
     for name, parts, ended in FILES:
         made = []
         for make in parts:
             made += make(Dice(seed * 1000 + place))
             place += 1
-        data = b"\n".join(made) + (b"\n" if ended else b"")
+        yield name, made, b"\n" if ended else b""
+
+
+def main(seed, outdir):
+    os.makedirs(outdir, exist_ok=True)
+    total = 0
+    for name, made, end in made_by(seed):
+        data = b"\n".join(made) + end
         out = lines.run(data)
         total += len(made)
-        for end, content in ((".stdin", data), (".stdout", out)):
-            with open(os.path.join(outdir, name + end), "wb") as f:
+        for kind, content in ((".stdin", data), (".stdout", out)):
+            with open(os.path.join(outdir, name + kind), "wb") as f:
                 f.write(content)
-        print(f"{name}\t{len(made)} lines\t{len(data)} bytes in\t{len(out)} bytes out")
+        print(f"{name}\t{len(data)} bytes in\t{len(out)} bytes out")
     print(f"{total} lines in all")
 
 
