@@ -25,7 +25,7 @@ enum Call {
 }
 
 // Step 7.
-pub fn keys(x: &mut u32, words: Words, header: Header, table: &[u32]) -> [u32; 8]
+pub(crate) fn keys(x: &mut u32, words: Words, header: Header, table: &[u32]) -> [u32; 8]
     requires { ⌜ length (now table) ≤ 50 ⌝ }
 {
     let one = pick(x, words, header, table);
@@ -61,7 +61,7 @@ fn pick(x: &mut u32, words: Words, header: Header, table: &[u32]) -> u32
 }
 
 // Steps 8 and 9.
-pub fn on_copies(x: &mut u32, h: &mut u64, header: Header, table: &[u32], list: [u32; 8])
+pub(crate) fn on_copies(x: &mut u32, h: &mut u64, header: Header, table: &[u32], list: [u32; 8])
     requires { ⌜ length (now table) ≤ 50 ⌝ }
 {
     with_words(h, header, table, list);
@@ -149,7 +149,7 @@ fn list_into(h: &mut u64, header: Header, table: &[u32], buffer: &mut [u32]) {
 }
 
 // Step 10.
-pub fn on_itself(h: &mut u64, header: Header, table: &mut [u32], list: [u32; 8]) {
+pub(crate) fn on_itself(h: &mut u64, header: Header, table: &mut [u32], list: [u32; 8]) {
     let one = out_and_in(h, header, table, list[0]);
     let two = out_and_in(h, one, table, list[1]);
     let three = out_and_in(h, two, table, list[3]);

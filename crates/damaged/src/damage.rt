@@ -12,7 +12,7 @@ ghost use Prim.Native.Nat.{_*_, _<_, _≤_};
 ghost use lib.ListN.{length};
 
 // Hands back the header, damaged or not.
-pub fn damaged(x: &mut u32, words: Words, header: Header, table: &mut [u32]) -> Header
+pub(crate) fn damaged(x: &mut u32, words: Words, header: Header, table: &mut [u32]) -> Header
     requires { ⌜ length (now table) ≤ 50 ⌝ }
 {
     let c = rows_in_use(header, table);

@@ -9,7 +9,7 @@ ghost use Prim.Native.Nat.{_%_};
 
 const PRIME: u64 = 4294967311;
 
-pub fn value(h: u64) -> u64
+pub(crate) fn value(h: u64) -> u64
     ensures { λ r. ⌜ r ≡ h % 4294967311 ⌝ }
 {
     h % PRIME
@@ -20,7 +20,7 @@ fn fold(h: &mut u64, v: u32) {
 }
 
 // Folds a reply, and hands on the header that it handed back.
-pub fn fold_reply(h: &mut u64, reply: Reply) -> Header {
+pub(crate) fn fold_reply(h: &mut u64, reply: Reply) -> Header {
     let header = reply.header;
     let answer = reply.answer;
     fold_answer(h, answer);
@@ -60,7 +60,7 @@ fn with_key(h: &mut u64, key: u32) {
     fold(h, key);
 }
 
-pub fn fold_words(h: &mut u64, words: &[u32]) {
+pub(crate) fn fold_words(h: &mut u64, words: &[u32]) {
     let mut i = 0;
     while i < words.len() {
         fold(h, words[i]);

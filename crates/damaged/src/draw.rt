@@ -3,7 +3,7 @@
 ghost use Prim.Native.Nat.{_-_, _<_, _≤_};
 
 // A number below n; where n is 0 it is 0.
-pub fn draw(x: &mut u32, n: u32) -> u32
+pub(crate) fn draw(x: &mut u32, n: u32) -> u32
     ensures { λ r. ⌜ r ≤ n - 1 ⌝ }
 {
     let next = (*x as u64 * 1664525 + 1013904223) % 4294967296;
@@ -12,7 +12,7 @@ pub fn draw(x: &mut u32, n: u32) -> u32
 }
 
 // Any number of 32 bits.
-pub fn wild(x: &mut u32) -> u32 {
+pub(crate) fn wild(x: &mut u32) -> u32 {
     let a = draw(x, 65536);
     let b = draw(x, 65536);
     a * 65536 + b
@@ -24,7 +24,7 @@ pub enum From {
     Below(u32),
 }
 
-pub fn fill(x: &mut u32, table: &mut [u32], from: From) {
+pub(crate) fn fill(x: &mut u32, table: &mut [u32], from: From) {
     let mut i = 0;
     while i < table.len() {
         table[i] = drawn(x, from);
@@ -47,13 +47,13 @@ pub struct Words {
 
 impl Words {
     // The widths are 1, 2, 3, 4, 5, 6, 7, 8, 32.
-    pub fn width(self) -> u32
+    pub(crate) fn width(self) -> u32
         ensures { λ r. ⌜ (0 < r) × (r ≤ 32) ⌝ }
     {
         if self.nth < 8 { self.nth + 1 } else { 32 }
     }
 
-    pub fn word(self, x: &mut u32) -> u32 {
+    pub(crate) fn word(self, x: &mut u32) -> u32 {
         let width = self.width();
         if self.near == 0 {
             return wild(x) >> (32 - width);
@@ -66,7 +66,7 @@ impl Words {
     }
 
     // The least number that is too wide. For 32 bits there is none in a word, and 0 stands for it.
-    pub fn too_wide(self) -> u32 {
+    pub(crate) fn too_wide(self) -> u32 {
         let width = self.width();
         if width < 32 { 1 << width } else { 0 }
     }

@@ -16,7 +16,7 @@ ghost use Prim.Native.Nat.{_*_, _≤_};
 ghost use lib.ListN.{length};
 
 // The longest table has 16 rows and 2 words past the last one.
-pub fn one_table(x: &mut u32, h: &mut u64) {
+pub(crate) fn one_table(x: &mut u32, h: &mut u64) {
     let nth = draw(x, 9);
     let cap = draw(x, 17);
     let extra = draw(x, 3);
@@ -91,7 +91,7 @@ fn delete_word(x: &mut u32, h: &mut u64, header: Header, table: &mut [u32]) -> H
 }
 
 // "Capacity is the table's length divided by 3, rounded down"
-pub fn capacity(table: &[u32]) -> u32
+pub(crate) fn capacity(table: &[u32]) -> u32
     requires { ⌜ length (now table) ≤ 50 ⌝ }
     ensures { λ r. ⌜ (r ≤ 16) × (3 * r ≤ length (now (table .entry))) ⌝ }
 {
@@ -99,7 +99,7 @@ pub fn capacity(table: &[u32]) -> u32
 }
 
 // The count of a header that our calls handed back. It is never above capacity, and the test spares us the proof of that here.
-pub fn rows_in_use(header: Header, table: &[u32]) -> u32
+pub(crate) fn rows_in_use(header: Header, table: &[u32]) -> u32
     requires { ⌜ length (now table) ≤ 50 ⌝ }
     ensures { λ r. ⌜ (r ≤ 16) × (3 * r ≤ length (now (table .entry))) ⌝ }
 {

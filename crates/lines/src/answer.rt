@@ -86,7 +86,7 @@ pub struct Told {
 }
 
 // Answers the line that comes after `lines` lines. A reply takes at most 65 bytes, and 15 for each word that is listed.
-pub fn answer(
+pub(crate) fn answer(
     line: &[u8],
     lines: u64,
     header: Header,

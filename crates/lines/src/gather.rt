@@ -7,7 +7,7 @@ ghost use Rattle.lines.specs.Render.{Put};
 ghost use Rattle.lines.specs.Gather.{untilEnd};
 
 // The place of the first byte 10 from `from` on, or the end of the piece.
-pub fn line_end(piece: &[u8], from: usize) -> usize
+pub(crate) fn line_end(piece: &[u8], from: usize) -> usize
     requires { ⌜ from ≤ length (now piece) ⌝ }
     ensures { λ r. ⌜ r ≡ from + untilEnd (drop from (now (piece .entry))) ⌝ }
 {
@@ -22,7 +22,7 @@ pub fn line_end(piece: &[u8], from: usize) -> usize
 }
 
 // Holds a part of a line behind the `count` bytes that are held already, but no more than the buffer takes.
-pub fn hold(buffer: &mut [u8], count: usize, part: &[u8]) -> usize
+pub(crate) fn hold(buffer: &mut [u8], count: usize, part: &[u8]) -> usize
     requires { ⌜ count ≤ length (now buffer) ⌝ }
     ensures { λ r. ⌜ Put (now (buffer .entry)) count (take (length (now (buffer .entry)) - count) (now (part .entry))) (now (buffer .exit)) r ⌝ }
 {

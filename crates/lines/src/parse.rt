@@ -35,7 +35,7 @@ impl Word {
 }
 
 // A word is found by the line's first four bytes, as one number: one comparison for each word, and no loop.
-pub fn parse(line: &[u8]) -> Line
+pub(crate) fn parse(line: &[u8]) -> Line
     ensures { λ r. ⌜ r ≡ parse (now (line .entry)) ⌝ }
 {
     if line.len() < 4 {

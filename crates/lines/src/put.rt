@@ -9,7 +9,7 @@ ghost use lib.ListN.{length};
 ghost use Rattle.lines.specs.Render.{digits, field, keyField, replyLine, keyLine, keyLines, Put};
 
 // The digits are counted first and then written from the last to the first.
-pub fn put_number(out: &mut [u8], at: usize, n: u64) -> usize
+pub(crate) fn put_number(out: &mut [u8], at: usize, n: u64) -> usize
     requires { ⌜ at + length (digits n) ≤ length (now out) ⌝ }
     ensures { λ r. ⌜ Put (now (out .entry)) at (digits n) (now (out .exit)) r ⌝ }
 {
@@ -62,7 +62,7 @@ fn put_key(out: &mut [u8], at: usize, key: Number) -> usize
 }
 
 // "line number from 1, answer number, key or `-`, rows read, moving count, parted by tabs"
-pub fn put_reply(out: &mut [u8], at: usize, line: u64, said: Said) -> usize
+pub(crate) fn put_reply(out: &mut [u8], at: usize, line: u64, said: Said) -> usize
     requires { ⌜ at + 65 ≤ length (now out) ⌝ }
     ensures { λ r. ⌜ Put (now (out .entry)) at (replyLine line said) (now (out .exit)) r ⌝ }
     ensures { λ r. ⌜ r ≤ at + 65 ⌝ }
@@ -91,7 +91,7 @@ fn put_key_line(out: &mut [u8], at: usize, word: u32) -> usize
 }
 
 // "After a `list` with answer 0 come lines `key`, tab, word."
-pub fn put_keys(out: &mut [u8], at: usize, words: &[u32]) -> usize
+pub(crate) fn put_keys(out: &mut [u8], at: usize, words: &[u32]) -> usize
     requires { ⌜ at + 15 * length (now words) ≤ length (now out) ⌝ }
     ensures { λ r. ⌜ Put (now (out .entry)) at (keyLines (now (words .entry))) (now (out .exit)) r ⌝ }
     ensures { λ r. ⌜ r ≤ at + 15 * length (now (words .entry)) ⌝ }

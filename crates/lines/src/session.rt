@@ -86,7 +86,7 @@ fn ended(told: Told, lines: u64, from: usize) -> Went
 }
 
 // Answers a piece from the place `from` on, until it ends or `out` might not have room for one more reply.
-pub fn feed(
+pub(crate) fn feed(
     session: Session,
     piece: &[u8],
     from: usize,

@@ -44,7 +44,8 @@ Greatest = Foremost (λ y z. z ≤ y)
 abbrev pub apart : ℕ → ℕ → ℕ
 apart x y = (x - y) + (y - x)
 
--- document 01's `gap`: "distance to the nearest word; 0 if k is present", or that there is no word
+-- what document 01's `gap` comes to ("distance 0 if k is present [..] Else the smaller of the distances to `prev` and `next`"): the distance to
+-- the nearest word, or that there is no word
 pub data Nearest (k : ℕ) (s : List ℕ) : Perhaps ℕ → Type 0 where
   nearest-is : {y d : ℕ} → y ∈ s → d ≡ apart k y → ((z : ℕ) → z ∈ s → d ≤ apart k z) → Nearest k s (such d)
   no-nearest : ((z : ℕ) → z ∈ s → ⊥) → Nearest k s no-such

@@ -1,6 +1,7 @@
 // The way of a word in four numbers, for `has`. It skims the rows whose keys are less than the word, and turns by index. Of each key it asks
-// how many words lie between the key and the word: fewer than at the row above ("greater than [the key] of the row it was reached from"), and fewer
-// than the words below the word that have "the bits of the path". So one number, held to two, judges a row.
+// how many words lie between the key and the word. Fewer than at the row above says that the key is greater than "that of the row it was
+// reached from"; fewer than there are words below the word with "the bits of the path" says that the key has those bits. So one number, held
+// to two, judges a row.
 
 use crate::Header;
 use crate::Row;
