@@ -32,7 +32,8 @@ use Rattle.pretree.specs.Unfold.{unfolded, shown}
 use Rattle.pretree.specs.Reply.{wrong-width, wrong-header, too-wide, refused, answered}
 use Rattle.pretree.specs.Add.{Outcome, taking, hooking, grown, addOutcome}
 use Rattle.pretree.proofs.Writing.{same-capacity}
-use Rattle.demands.specs.Call.{After, after, add}
+use Rattle.pretree.specs.declared.Call.the-variants.{Add}
+use Rattle.pretree.specs.Call.{After, after}
 use Rattle.demands.specs.Numbers.{numbers}
 use Rattle.demands.specs.Expected.{Said, Kept, only, expected, changed, kept-after}
 use Rattle.demands.specs.Demand2.{Holding, Keeps, keptBy, KeepsDictionary, LaterZeros}
@@ -298,7 +299,7 @@ module _ (h : Header) (table S : List ℕ) (H : Holding h table S) (k : ℕ) whe
   unfolding addOutcome too-wide
   outcome-so = rw (H .right-header, adding-unbroken (h .width) t (undamaged H) k)
 
-  pub keeps-add : (buffer : List ℕ) → KeepsDictionary (add k) h table buffer S
+  pub keeps-add : (buffer : List ℕ) → KeepsDictionary (Add k) h table buffer S
   unfolding after expected kept-after changed numberOf keyOf
   keeps-add buffer = rw outcome-so (by-width (leb (2 ^ h .width) k) refl (a .present) (λ small. present-so small))
     where

@@ -12,7 +12,9 @@ use Rattle.pretree.specs.declared.Header.{Header}
 use Rattle.pretree.specs.Table.{capacity}
 use Rattle.pretree.specs.Reply.{fresh, wrong-header}
 use Rattle.pretree.proofs.Writing.{same-capacity}
-use Rattle.demands.specs.Call.{Call, After, after, new, add, del, has, next, prev, gap, first, last, audit, list}
+use Rattle.pretree.specs.declared.Call.{Call}
+use Rattle.pretree.specs.declared.Call.the-variants.{New, Add, Del, Has, Next, Prev, Gap, First, Last, Audit}
+use Rattle.pretree.specs.Call.{After, after}
 use Rattle.demands.specs.Expected.{Kept, expected, changed, kept-after}
 use Rattle.demands.specs.Demand2.{Holding, KeepsDictionary, keptBy, Demand2, LaterZeros, ZerosKept, answers, told, Sequences, SequencesFromEmpty, EverySetHeld}
 use Rattle.demands.proofs.Written.{every-set-has-rows}
@@ -21,17 +23,17 @@ use Rattle.demands.proofs.Added.{keeps-add, zeros-add}
 use Rattle.demands.proofs.Removed.{keeps-del, zeros-del}
 
 pub demand2 : Demand2
-demand2 (new w) h table buffer S H = keeps-new h table buffer S H w
-demand2 (add k) h table buffer S H = keeps-add h table S H k buffer
-demand2 (del k) h table buffer S H = keeps-del h table S H k buffer
-demand2 (has k) h table buffer S H = keeps-has h table buffer S H k
-demand2 (next k) h table buffer S H = keeps-next h table buffer S H k
-demand2 (prev k) h table buffer S H = keeps-prev h table buffer S H k
-demand2 (gap k) h table buffer S H = keeps-gap h table buffer S H k
-demand2 first h table buffer S H = keeps-first h table buffer S H
-demand2 last h table buffer S H = keeps-last h table buffer S H
-demand2 audit h table buffer S H = keeps-audit h table buffer S H
-demand2 list h table buffer S H = keeps-list h table buffer S H
+demand2 (New w) h table buffer S H = keeps-new h table buffer S H w
+demand2 (Add k) h table buffer S H = keeps-add h table S H k buffer
+demand2 (Del k) h table buffer S H = keeps-del h table S H k buffer
+demand2 (Has k) h table buffer S H = keeps-has h table buffer S H k
+demand2 (Next k) h table buffer S H = keeps-next h table buffer S H k
+demand2 (Prev k) h table buffer S H = keeps-prev h table buffer S H k
+demand2 (Gap k) h table buffer S H = keeps-gap h table buffer S H k
+demand2 First h table buffer S H = keeps-first h table buffer S H
+demand2 Last h table buffer S H = keeps-last h table buffer S H
+demand2 Audit h table buffer S H = keeps-audit h table buffer S H
+demand2 Call.List h table buffer S H = keeps-list h table buffer S H
 
 -- a call that leaves the table and the set leaves the count too
 module _ (h : Header) (table buffer S : List ℕ) (H : Holding h table S) (zeros : LaterZeros h table) where
@@ -49,17 +51,17 @@ module _ (h : Header) (table buffer S : List ℕ) (H : Holding h table S) (zeros
 
   keeps-zeros : (c : Call) → LaterZeros (after c h table buffer .reply .header) (after c h table buffer .table)
   unfolding after kept-after changed
-  keeps-zeros (new w) = zeros-new w h table zeros
-  keeps-zeros (add k) = zeros-add h table S H k zeros
-  keeps-zeros (del k) = zeros-del h table S H k zeros
-  keeps-zeros (has k) = same-zeros (has k) (set-kept (done (has k)) (keptBy h S buffer) refl)
-  keeps-zeros (next k) = same-zeros (next k) (set-kept (done (next k)) (keptBy h S buffer) refl)
-  keeps-zeros (prev k) = same-zeros (prev k) (set-kept (done (prev k)) (keptBy h S buffer) refl)
-  keeps-zeros (gap k) = same-zeros (gap k) (set-kept (done (gap k)) (keptBy h S buffer) refl)
-  keeps-zeros first = same-zeros first (set-kept (done first) (keptBy h S buffer) refl)
-  keeps-zeros last = same-zeros last (set-kept (done last) (keptBy h S buffer) refl)
-  keeps-zeros audit = same-zeros audit (set-kept (done audit) (keptBy h S buffer) refl)
-  keeps-zeros list = same-zeros list (set-kept (done list) (changed list (keptBy h S buffer)) refl)
+  keeps-zeros (New w) = zeros-new w h table zeros
+  keeps-zeros (Add k) = zeros-add h table S H k zeros
+  keeps-zeros (Del k) = zeros-del h table S H k zeros
+  keeps-zeros (Has k) = same-zeros (Has k) (set-kept (done (Has k)) (keptBy h S buffer) refl)
+  keeps-zeros (Next k) = same-zeros (Next k) (set-kept (done (Next k)) (keptBy h S buffer) refl)
+  keeps-zeros (Prev k) = same-zeros (Prev k) (set-kept (done (Prev k)) (keptBy h S buffer) refl)
+  keeps-zeros (Gap k) = same-zeros (Gap k) (set-kept (done (Gap k)) (keptBy h S buffer) refl)
+  keeps-zeros First = same-zeros First (set-kept (done First) (keptBy h S buffer) refl)
+  keeps-zeros Last = same-zeros Last (set-kept (done Last) (keptBy h S buffer) refl)
+  keeps-zeros Audit = same-zeros Audit (set-kept (done Audit) (keptBy h S buffer) refl)
+  keeps-zeros Call.List = same-zeros Call.List (set-kept (done Call.List) (changed Call.List (keptBy h S buffer)) refl)
 
 pub zeros-kept : ZerosKept
 zeros-kept = record { after-new = new-zeros; kept-so = λ c h table buffer S H zeros. keeps-zeros h table buffer S H zeros c }

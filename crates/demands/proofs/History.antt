@@ -5,7 +5,8 @@ use mathlib.Core.List.{List, [], _∷_}
 use Rattle.pretree.specs.Table.{capacity}
 use Rattle.pretree.specs.Reply.{fresh}
 use Rattle.pretree.proofs.Writing.{same-capacity}
-use Rattle.demands.specs.Call.{Call, After, after}
+use Rattle.pretree.specs.declared.Call.{Call}
+use Rattle.pretree.specs.Call.{After, after}
 use Rattle.demands.specs.Expected.{Kept, kept-after}
 use Rattle.demands.specs.Demand2.{KeepsDictionary, keptBy}
 use Rattle.demands.specs.History.{reported, onTheWays, History, HistoryFromEmpty}

@@ -22,7 +22,8 @@ use Rattle.ordered.proofs.OneTree.{keys-fit, keys-rise, one-tree}
 use Rattle.pretree.specs.declared.Header.{Header}
 use Rattle.pretree.specs.Table.{capacity}
 use Rattle.pretree.specs.Reply.{wrong-header}
-use Rattle.demands.specs.Call.{Call, del, has, next, prev, last}
+use Rattle.pretree.specs.declared.Call.{Call}
+use Rattle.pretree.specs.declared.Call.the-variants.{Del, Has, Next, Prev, Last}
 use Rattle.demands.specs.RowsRead.{rowsOver, refusedOver}
 use Rattle.demands.specs.Reached.{chain, parted-chain, SetOf, Reached, ReachedBeyond, ReadIn, ReachedIn}
 use Rattle.demands.proofs.Unfolding.{none-proper}
@@ -352,16 +353,16 @@ reached-in W some fits =
     let small : leb (2 ^ W) (2 ^ W - 1) ≡ false = lt-leb (2 ^ W) (2 ^ W - 1) (ones-lt W) in
     let half : 2 ^ (W - 1) < 2 ^ W = pow-lt (omega arith) in
     record {
-      has-reads = rw (reached W .has-reads) at (on-chain (has (2 ^ W - 1)) (λ room space. small));
-      del-reads = rw (reached W .del-reads) at (on-chain (del (2 ^ W - 1)) (λ room space. small));
-      last-reads = rw (reached W .last-reads) at (on-chain last (λ room space. refl));
+      has-reads = rw (reached W .has-reads) at (on-chain (Has (2 ^ W - 1)) (λ room space. small));
+      del-reads = rw (reached W .del-reads) at (on-chain (Del (2 ^ W - 1)) (λ room space. small));
+      last-reads = rw (reached W .last-reads) at (on-chain Last (λ room space. refl));
       next-reads =
           λ three.
           rw (reached-beyond W three .next-reads) at
-          (on-parted three (next (2 ^ (W - 1) - 1)) (λ room space. lt-leb (2 ^ W) (2 ^ (W - 1) - 1) (omega arith)));
+          (on-parted three (Next (2 ^ (W - 1) - 1)) (λ room space. lt-leb (2 ^ W) (2 ^ (W - 1) - 1) (omega arith)));
       prev-reads =
           λ three.
-          rw (reached-beyond W three .prev-reads) at (on-parted three (prev (2 ^ (W - 1))) (λ room space. lt-leb (2 ^ W) (2 ^ (W - 1)) half));
+          rw (reached-beyond W three .prev-reads) at (on-parted three (Prev (2 ^ (W - 1))) (λ room space. lt-leb (2 ^ W) (2 ^ (W - 1)) half));
     }
   where
     on-parted : 3 ≤ W → (c : Call) → ((room space : ℕ) → refusedOver c W (parted-chain W) room space ≡ false)

@@ -30,7 +30,9 @@ use Rattle.pretree.specs.Whole.{newReply, newTable, auditReply, listReply, list
 use Rattle.pretree.specs.Sound.{Sound, isSound}
 use Rattle.pretree.specs.Add.{Outcome, grown, addOutcome}
 use Rattle.pretree.specs.Del.{secondWay, astray, shrunk, delOutcome}
-use Rattle.demands.specs.Call.{Call, new, add, del, has, next, prev, gap, first, last, audit, list, After, after}
+use Rattle.pretree.specs.declared.Call.{Call}
+use Rattle.pretree.specs.declared.Call.the-variants.{New, Add, Del, Has, Next, Prev, Gap, First, Last, Audit}
+use Rattle.pretree.specs.Call.{After, after}
 use Rattle.demands.specs.Refusals.{waysOf, Wrong-width, Wrong-header, Too-wide, Damage as Damage-on, EndsAt, for-each, GivenWhen, Given}
 use Rattle.demands.specs.Refusals.{Refusal, Untouched, SameFrom, numberAfter, Refusals, OneOutcome}
 use Rattle.demands.proofs.SoundIs.{sound-is}
@@ -129,7 +131,7 @@ module _ (three : Type 0) (h : Header) (table buffer : List ℕ) (wide : Bool) (
       found no-such number = omega arith
 
 new-seen : (W : ℕ) (h : Header) (table buffer : List ℕ)
-    → Seen (GivenWhen (new W) h table buffer) h table buffer [] (after (new W) h table buffer)
+    → Seen (GivenWhen (New W) h table buffer) h table buffer [] (after (New W) h table buffer)
 unfolding after GivenWhen for-each numberOf newReply newTable
 new-seen W h table buffer = by-cases (wrong-width W) (wrong-width-tested W)
   where
@@ -137,7 +139,7 @@ new-seen W h table buffer = by-cases (wrong-width W) (wrong-width-tested W)
     words = 3 * capacity table
 
     given : ℕ → Type 0
-    given = GivenWhen (new W) h table buffer
+    given = GivenWhen (New W) h table buffer
 
     by-cases : (b : Bool) → Whether (Wrong-width W) b
         → Seen given h table buffer []
@@ -160,7 +162,7 @@ alone true = holds refl
 alone false = never false≢true
 
 add-seen : (k : ℕ) (h : Header) (table buffer : List ℕ)
-    → Seen (GivenWhen (add k) h table buffer) h table buffer (waysOf (add k) h table) (after (add k) h table buffer)
+    → Seen (GivenWhen (Add k) h table buffer) h table buffer (waysOf (Add k) h table) (after (Add k) h table buffer)
 unfolding after GivenWhen for-each numberOf addOutcome waysOf brokenIn rowsOf
 add-seen k h table buffer =
     judge P 2 (wrong-header-tested h table) (from-two when (λ x. x) (λ x. x)) (refuse WrongHeader (omega arith))
@@ -172,10 +174,10 @@ add-seen k h table buffer =
     a = adding (h .width) k (shown h table)
 
     when : ℕ → Type 0
-    when = GivenWhen (add k) h table buffer
+    when = GivenWhen (Add k) h table buffer
 
     P : Outcome → Type 0
-    P o = Seen when h table buffer (waysOf (add k) h table) (record { reply = o .reply; table = o .table; buffer = buffer })
+    P o = Seen when h table buffer (waysOf (Add k) h table) (record { reply = o .reply; table = o .table; buffer = buffer })
 
     more : Outcome
     more =
@@ -196,14 +198,14 @@ add-seen k h table buffer =
         (refuse Full (omega arith))
         (λ before-6. zero-seen (record { reply = more .reply; table = more .table; buffer = buffer }) refl (further 6 before-6 (λ x. x)))
 
-audit-seen : (h : Header) (table buffer : List ℕ) → Seen (GivenWhen audit h table buffer) h table buffer [] (after audit h table buffer)
+audit-seen : (h : Header) (table buffer : List ℕ) → Seen (GivenWhen Audit h table buffer) h table buffer [] (after Audit h table buffer)
 unfolding after GivenWhen for-each numberOf auditReply
 audit-seen h table buffer =
     judge P 2 (wrong-header-tested h table) (from-two when (λ x. x) (λ x. x)) (refuse WrongHeader (omega arith))
     (λ before-3. by-soundness (further 3 before-3 (λ x. x)) (isSound h table) (whether-sound h table))
   where
     when : ℕ → Type 0
-    when = GivenWhen audit h table buffer
+    when = GivenWhen Audit h table buffer
 
     P : Reply → Type 0
     P reply = Seen when h table buffer [] (record { reply = reply; table = table; buffer = buffer })
@@ -214,14 +216,14 @@ audit-seen h table buffer =
         (further 6 (further 5 (further 4 before-4 (λ not-sound. not-sound (sound .0 refl))) (λ x. x)) (λ x. x))
     by-soundness before-4 false sound = refuse Damage (omega arith) (fails sound) before-4
 
-list-seen : (h : Header) (table buffer : List ℕ) → Seen (GivenWhen list h table buffer) h table buffer [] (after list h table buffer)
+list-seen : (h : Header) (table buffer : List ℕ) → Seen (GivenWhen Call.List h table buffer) h table buffer [] (after Call.List h table buffer)
 unfolding after GivenWhen for-each numberOf listReply listBuffer
 list-seen h table buffer =
     by-cases (wrong-header h table) (isSound h table) (ltb (length buffer) (h .count)) (wrong-header-tested h table) (whether-sound h table)
     (less-tested (length buffer) (h .count))
   where
     when : ℕ → Type 0
-    when = GivenWhen list h table buffer
+    when = GivenWhen Call.List h table buffer
 
     listed : List ℕ
     listed = listing (shown h table) ++ drop (h .count) buffer
@@ -279,7 +281,7 @@ module _ (i k : ℕ) where
       by-cases false other = not-tested b ends
 
 del-seen : (k : ℕ) (h : Header) (table buffer : List ℕ)
-    → Seen (GivenWhen (del k) h table buffer) h table buffer (waysOf (del k) h table) (after (del k) h table buffer)
+    → Seen (GivenWhen (Del k) h table buffer) h table buffer (waysOf (Del k) h table) (after (Del k) h table buffer)
 unfolding after GivenWhen for-each numberOf delOutcome astray waysOf brokenIn rowsOf
 del-seen k h table buffer =
     judge P 2 (wrong-header-tested h table) (from-two when (λ x. x) (λ x. x)) (refuse WrongHeader (omega arith))
@@ -290,10 +292,10 @@ del-seen k h table buffer =
     e = erasing (h .width) k (shown h table)
 
     when : ℕ → Type 0
-    when = GivenWhen (del k) h table buffer
+    when = GivenWhen (Del k) h table buffer
 
     P : Outcome → Type 0
-    P o = Seen when h table buffer (waysOf (del k) h table) (record { reply = o .reply; table = o .table; buffer = buffer })
+    P o = Seen when h table buffer (waysOf (Del k) h table) (record { reply = o .reply; table = o .table; buffer = buffer })
 
     last-row : ℕ
     last-row = pred (h .count)
@@ -318,7 +320,7 @@ del-seen k h table buffer =
         }
 
     -- the second way, where the word is there and the first way is whole
-    second-tested : ¬ Damage-on (del k) h table → e .present ≡ true → Whether (when 4) (moves && (broken second || astray h table second))
+    second-tested : ¬ Damage-on (Del k) h table → e .present ≡ true → Whether (when 4) (moves && (broken second || astray h table second))
     second-tested whole there =
         let key : ℕ = rowAt table last-row .entry .key in
         let ends : Bool = ends-at key second && eqb (numberAt (second .end)) last-row in
@@ -330,7 +332,7 @@ del-seen k h table buffer =
           elim [ inl on-way ↦ absurd (whole on-way) | inr lost ↦ tested .1 (lost .0 .hole-elsewhere, lost .1) ],
         )
 
-    by-damage : Before when 4 → (b : Bool) → Whether (Damage-on (del k) h table) b → (p : Bool) → e .present ≡ p
+    by-damage : Before when 4 → (b : Bool) → Whether (Damage-on (Del k) h table) b → (p : Bool) → e .present ≡ p
         → P (if b then record { reply = refused h Damage; table = table }
         else if not p then record { reply = answered h NoSuchWord (rows (e .rows-read)); table = table }
         else if moves && (broken second || astray h table second) then record { reply = refused h Damage; table = table }
@@ -348,21 +350,21 @@ del-seen k h table buffer =
 seen : (c : Call) (h : Header) (table buffer : List ℕ)
     → Seen (GivenWhen c h table buffer) h table buffer (waysOf c h table) (after c h table buffer)
 unfolding numberOf after GivenWhen waysOf hasReply nextReply prevReply gapReply firstReply lastReply
-seen (new W) h table buffer = new-seen W h table buffer
-seen (add k) h table buffer = add-seen k h table buffer
-seen (del k) h table buffer = del-seen k h table buffer
-seen (has k) h table buffer =
+seen (New W) h table buffer = new-seen W h table buffer
+seen (Add k) h table buffer = add-seen k h table buffer
+seen (Del k) h table buffer = del-seen k h table buffer
+seen (Has k) h table buffer =
     read-seen (Too-wide h k) h table buffer (too-wide h k) done (reading-has (h .width) k (shown h table)) (too-wide-tested h k) (λ x. refl)
-seen (next k) h table buffer =
+seen (Next k) h table buffer =
     read-seen (Too-wide h k) h table buffer (too-wide h k) Word (reading-next (h .width) k (shown h table)) (too-wide-tested h k) (λ x. refl)
-seen (prev k) h table buffer =
+seen (Prev k) h table buffer =
     read-seen (Too-wide h k) h table buffer (too-wide h k) Word (reading-prev (h .width) k (shown h table)) (too-wide-tested h k) (λ x. refl)
-seen (gap k) h table buffer =
+seen (Gap k) h table buffer =
     read-seen (Too-wide h k) h table buffer (too-wide h k) Distance (reading-gap (h .width) k (shown h table)) (too-wide-tested h k) (λ x. refl)
-seen first h table buffer = read-seen ⊥ h table buffer false Word (reading-first (h .width) (shown h table)) (never (λ x. x)) (λ x. refl)
-seen last h table buffer = read-seen ⊥ h table buffer false Word (reading-last (h .width) (shown h table)) (never (λ x. x)) (λ x. refl)
-seen audit h table buffer = audit-seen h table buffer
-seen list h table buffer = list-seen h table buffer
+seen First h table buffer = read-seen ⊥ h table buffer false Word (reading-first (h .width) (shown h table)) (never (λ x. x)) (λ x. refl)
+seen Last h table buffer = read-seen ⊥ h table buffer false Word (reading-last (h .width) (shown h table)) (never (λ x. x)) (λ x. refl)
+seen Audit h table buffer = audit-seen h table buffer
+seen Call.List h table buffer = list-seen h table buffer
 
 -- the numbers of a call of which so much is seen
 module _ (c : Call) (h : Header) (table buffer : List ℕ) where
@@ -401,17 +403,17 @@ module _ (h : Header) (table buffer : List ℕ) where
 
   kept : (c : Call) → Kept (after c h table buffer .table) (after c h table buffer .buffer)
   unfolding after
-  kept (new W) = (new-kept table W, same-all (h .count))
-  kept (add k) = (add-kept h table k, same-all (h .count))
-  kept (del k) = (del-kept h table k, same-all (h .count))
-  kept (has k) = as-it-was
-  kept (next k) = as-it-was
-  kept (prev k) = as-it-was
-  kept (gap k) = as-it-was
-  kept first = as-it-was
-  kept last = as-it-was
-  kept audit = as-it-was
-  kept list = (same-all (3 * capacity table), list-kept h table buffer)
+  kept (New W) = (new-kept table W, same-all (h .count))
+  kept (Add k) = (add-kept h table k, same-all (h .count))
+  kept (Del k) = (del-kept h table k, same-all (h .count))
+  kept (Has k) = as-it-was
+  kept (Next k) = as-it-was
+  kept (Prev k) = as-it-was
+  kept (Gap k) = as-it-was
+  kept First = as-it-was
+  kept Last = as-it-was
+  kept Audit = as-it-was
+  kept Call.List = (same-all (3 * capacity table), list-kept h table buffer)
 
 pub refusals : (c : Call) (h : Header) (table buffer : List ℕ) → Refusals c h table buffer
 refusals c h table buffer =

@@ -33,7 +33,9 @@ use Rattle.pretree.specs.Add.{Outcome, addOutcome}
 use Rattle.pretree.specs.Del.{secondWay, astray, delOutcome}
 use Rattle.pretree.specs.Sound.{isSound}
 use Rattle.pretree.specs.Whole.{newReply, auditReply, listReply}
-use Rattle.demands.specs.Call.{new, add, del, has, next, prev, gap, first, last, audit, list, after}
+use Rattle.pretree.specs.declared.Call.{Call}
+use Rattle.pretree.specs.declared.Call.the-variants.{New, Add, Del, Has, Next, Prev, Gap, First, Last, Audit}
+use Rattle.pretree.specs.Call.{after}
 use Rattle.demands.specs.SoundIs.{HoldsSet}
 use Rattle.demands.specs.RowsRead.{rowsOver, moves, movedOver, refusedOver, isRefusal, Reports, RowsExact, RowsAlike, mostRows, mostMoved, AtMost, RowsBounded}
 use Rattle.demands.proofs.Tested.{shown-proper}
@@ -137,7 +139,7 @@ module _ (h : Header) (table S : List ℕ) (right : wrong-header h table ≡ fal
 
     abbrev Del-reports : Type 0
     Del-reports =
-        Reports (leb (2 ^ h .width) k) (rows (erasing (h .width) k (treeOf (h .width) S) .rows-read)) (movedOver (del k) h table S)
+        Reports (leb (2 ^ h .width) k) (rows (erasing (h .width) k (treeOf (h .width) S) .rows-read)) (movedOver (Del k) h table S)
         (delOutcome h table k .reply)
 
     del-reports : Del-reports
@@ -190,29 +192,29 @@ new-reports h w = by-width (wrong-width w)
 
 pub rows-exact : RowsExact
 unfolding after refusedOver rowsOver movedOver too-wide numberOf hasReply nextReply prevReply gapReply firstReply lastReply
-rows-exact (new w) h table buffer S right s = new-reports h w
-rows-exact (add k) h table buffer S right s = add-reports h table S right s k
-rows-exact (del k) h table buffer S right s = del-reports h table S right s k
-rows-exact (has k) h table buffer S right s =
+rows-exact (New w) h table buffer S right s = new-reports h w
+rows-exact (Add k) h table buffer S right s = add-reports h table S right s k
+rows-exact (Del k) h table buffer S right s = del-reports h table S right s k
+rows-exact (Has k) h table buffer S right s =
     read-reports h table S right s (has-over (h .width) k) (leb (2 ^ h .width) k) done (λ x. refl)
     (λ whole. has-unbroken (h .width) (shown h table) whole k) (has-unnumbered (h .width) k)
-rows-exact (next k) h table buffer S right s =
+rows-exact (Next k) h table buffer S right s =
     read-reports h table S right s (next-over (h .width) k) (leb (2 ^ h .width) k) Word (λ x. refl)
     (λ whole. next-unbroken (h .width) (shown h table) whole k) (next-unnumbered (h .width) k)
-rows-exact (prev k) h table buffer S right s =
+rows-exact (Prev k) h table buffer S right s =
     read-reports h table S right s (prev-over (h .width) k) (leb (2 ^ h .width) k) Word (λ x. refl)
     (λ whole. prev-unbroken (h .width) (shown h table) whole k) (prev-unnumbered (h .width) k)
-rows-exact (gap k) h table buffer S right s =
+rows-exact (Gap k) h table buffer S right s =
     read-reports h table S right s (gap-over (h .width) k) (leb (2 ^ h .width) k) Distance (λ x. refl)
     (λ whole. gap-unbroken (h .width) (shown h table) whole k) (gap-unnumbered (h .width) k)
-rows-exact first h table buffer S right s =
+rows-exact First h table buffer S right s =
     read-reports h table S right s (first-over (h .width)) false Word (λ x. refl)
     (λ whole. first-unbroken (h .width) (shown h table) whole) (first-unnumbered (h .width))
-rows-exact last h table buffer S right s =
+rows-exact Last h table buffer S right s =
     read-reports h table S right s (last-over (h .width)) false Word (λ x. refl)
     (λ whole. last-unbroken (h .width) (shown h table) whole) (last-unnumbered (h .width))
-rows-exact audit h table buffer S right s = audit-reports h table S right s
-rows-exact list h table buffer S right s = list-reports h table S right s buffer
+rows-exact Audit h table buffer S right s = audit-reports h table S right s
+rows-exact Call.List h table buffer S right s = list-reports h table S right s buffer
 
 pub rows-alike : RowsAlike
 unfolding capacity
@@ -240,9 +242,9 @@ read-few {n} h table wide word r few =
 
 pub rows-bounded : RowsBounded
 unfolding after mostRows mostMoved newReply hasReply nextReply prevReply gapReply firstReply lastReply addOutcome delOutcome auditReply listReply secondWay
-rows-bounded (new w) h table buffer =
+rows-bounded (New w) h table buffer =
     either-way (AtMost 0 0) (wrong-width w) (none-few h WrongWidth) (none-few (fresh w) Done)
-rows-bounded (add k) h table buffer =
+rows-bounded (Add k) h table buffer =
     let a : Adding = adding (h .width) k (shown h table) in
     let more : Header = record { width = h .width; count = suc (h .count) } in
     let P : Outcome → Type 0 = λ o. AtMost (h .width + 1) 0 (o .reply) in
@@ -252,7 +254,7 @@ rows-bounded (add k) h table buffer =
     (either-way P (broken (a .rows-read)) (none-few h Damage)
     (either-way P (a .present) (answer-few h AlreadyThere few)
     (either-way P (eqb (h .count) (capacity table)) (none-few h Full) (answer-few more Done few)))))
-rows-bounded (del k) h table buffer =
+rows-bounded (Del k) h table buffer =
     let e : Erasing = erasing (h .width) k (shown h table) in
     let second : Way = secondWay h table in
     let goes : Bool = not (eqb (e .hole) (pred (h .count))) in
@@ -268,23 +270,23 @@ rows-bounded (del k) h table buffer =
       few-read = few;
       few-moved = either-way (λ x. x ≤ h .width + 1) goes (way-rows (following key) (h .width) (shown h table)) (omega arith);
     })))))
-rows-bounded (has k) h table buffer =
+rows-bounded (Has k) h table buffer =
     read-few h table (too-wide h k) done (has-over (h .width) k (shown h table)) (has-rows (h .width) k (shown h table))
-rows-bounded (next k) h table buffer =
+rows-bounded (Next k) h table buffer =
     read-few h table (too-wide h k) Word (next-over (h .width) k (shown h table)) (next-rows (h .width) k (shown h table))
-rows-bounded (prev k) h table buffer =
+rows-bounded (Prev k) h table buffer =
     read-few h table (too-wide h k) Word (prev-over (h .width) k (shown h table)) (prev-rows (h .width) k (shown h table))
-rows-bounded (gap k) h table buffer =
+rows-bounded (Gap k) h table buffer =
     read-few h table (too-wide h k) Distance (gap-over (h .width) k (shown h table)) (gap-rows (h .width) k (shown h table))
-rows-bounded first h table buffer =
+rows-bounded First h table buffer =
     read-few h table false Word (first-over (h .width) (shown h table)) (omega (arith, first-rows (h .width) (shown h table)))
-rows-bounded last h table buffer =
+rows-bounded Last h table buffer =
     read-few h table false Word (last-over (h .width) (shown h table)) (last-rows (h .width) (shown h table))
-rows-bounded audit h table buffer =
+rows-bounded Audit h table buffer =
     let P : Reply → Type 0 = AtMost (h .count) 0 in
     either-way P (wrong-header h table) (none-few h WrongHeader)
     (either-way P (isSound h table) (answer-few h Done (omega arith)) (none-few h Damage))
-rows-bounded list h table buffer =
+rows-bounded Call.List h table buffer =
     let P : Reply → Type 0 = AtMost (h .count) 0 in
     either-way P (wrong-header h table) (none-few h WrongHeader)
     (either-way P (isSound h table)

@@ -14,7 +14,8 @@ use Rattle.pretree.specs.Answer.{numberOf, keyOf}
 use Rattle.pretree.specs.Table.{capacity, rowAt, cleared}
 use Rattle.pretree.specs.Reply.{fresh, wrong-width, wrong-header}
 use Rattle.pretree.specs.Whole.{newReply, newTable}
-use Rattle.demands.specs.Call.{Call, After, after}
+use Rattle.pretree.specs.declared.Call.{Call}
+use Rattle.pretree.specs.Call.{After, after}
 use Rattle.demands.specs.SoundIs.{HoldsSet}
 use Rattle.demands.specs.Expected.{Said, Kept, expected, kept-after}
 

@@ -9,7 +9,8 @@ use Rattle.ordered.specs.Such.{if_then_else_, Perhaps, no-such, such}
 use Rattle.ordered.specs.Dictionary.{insert, delete, lookup, min, max, successor, predecessor}
 use Rattle.ordered.specs.Reading.{nearest}
 use Rattle.pretree.specs.Reply.{wrong-width}
-use Rattle.demands.specs.Call.{Call, new, add, del, has, next, prev, gap, first, last, audit, list}
+use Rattle.pretree.specs.declared.Call.{Call}
+use Rattle.pretree.specs.declared.Call.the-variants.{New, Add, Del, Has, Next, Prev, Gap, First, Last, Audit}
 
 pub record Said : Type 0 where
   pub number : ℕ
@@ -36,35 +37,35 @@ pub record Kept : Type 0 where
 
 -- the answer, where the table has room for `capacity` words
 unfoldable pub expected : Call → ℕ → Kept → Said
-expected (new w) capacity s = if wrong-width w then only 1 else only 0
-expected (add k) capacity s =
+expected (New w) capacity s = if wrong-width w then only 1 else only 0
+expected (Add k) capacity s =
     of-width (s .width) k (if lookup k (s .set) then only 7 else if eqb (length (s .set)) capacity then only 5 else only 0)
-expected (del k) capacity s = of-width (s .width) k (if lookup k (s .set) then only 0 else only 8)
-expected (has k) capacity s = of-width (s .width) k (if lookup k (s .set) then only 0 else only 8)
-expected (next k) capacity s = of-width (s .width) k (word (successor k (s .set)))
-expected (prev k) capacity s = of-width (s .width) k (word (predecessor k (s .set)))
-expected (gap k) capacity s =
+expected (Del k) capacity s = of-width (s .width) k (if lookup k (s .set) then only 0 else only 8)
+expected (Has k) capacity s = of-width (s .width) k (if lookup k (s .set) then only 0 else only 8)
+expected (Next k) capacity s = of-width (s .width) k (word (successor k (s .set)))
+expected (Prev k) capacity s = of-width (s .width) k (word (predecessor k (s .set)))
+expected (Gap k) capacity s =
     of-width (s .width) k
     (word (if lookup k (s .set) then such 0 else nearest k (predecessor k (s .set)) (successor k (s .set))))
-expected first capacity s = word (min (s .set))
-expected last capacity s = word (max (s .set))
-expected audit capacity s = only 0
-expected list capacity s = if ltb (length (s .buffer)) (length (s .set)) then only 6 else only 0
+expected First capacity s = word (min (s .set))
+expected Last capacity s = word (max (s .set))
+expected Audit capacity s = only 0
+expected Call.List capacity s = if ltb (length (s .buffer)) (length (s .set)) then only 6 else only 0
 
 -- what a call does where it is done: "insert(x), which adds x to S"; "delete(x), which removes x from S"; "`new` (an empty set)";
 -- "`list` writes [the listing] to a lent buffer [..] and leaves the rest of the buffer"
 unfoldable pub changed : Call → Kept → Kept
-changed (new w) s = record { width = w; set = []; buffer = s .buffer }
-changed (add k) s = record { width = s .width; set = insert k (s .set); buffer = s .buffer }
-changed (del k) s = record { width = s .width; set = delete k (s .set); buffer = s .buffer }
-changed (has k) s = s
-changed (next k) s = s
-changed (prev k) s = s
-changed (gap k) s = s
-changed first s = s
-changed last s = s
-changed audit s = s
-changed list s = record { width = s .width; set = s .set; buffer = s .set ++ drop (length (s .set)) (s .buffer) }
+changed (New w) s = record { width = w; set = []; buffer = s .buffer }
+changed (Add k) s = record { width = s .width; set = insert k (s .set); buffer = s .buffer }
+changed (Del k) s = record { width = s .width; set = delete k (s .set); buffer = s .buffer }
+changed (Has k) s = s
+changed (Next k) s = s
+changed (Prev k) s = s
+changed (Gap k) s = s
+changed First s = s
+changed Last s = s
+changed Audit s = s
+changed Call.List s = record { width = s .width; set = s .set; buffer = s .set ++ drop (length (s .set)) (s .buffer) }
 
 -- "1 to 6 and 9 are refusals: [..] header, table and buffer untouched. 7 and 8 [..] change nothing."
 unfoldable pub kept-after : Call → ℕ → Kept → Kept

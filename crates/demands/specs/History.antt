@@ -9,7 +9,8 @@ use Rattle.ordered.specs.Such.{if_then_else_}
 use Rattle.pretree.specs.declared.Header.{Header}
 use Rattle.pretree.specs.Table.{capacity}
 use Rattle.pretree.specs.Reply.{fresh, wrong-width}
-use Rattle.demands.specs.Call.{Call, After, after}
+use Rattle.pretree.specs.declared.Call.{Call}
+use Rattle.pretree.specs.Call.{After, after}
 use Rattle.demands.specs.Expected.{Kept, kept-after}
 use Rattle.demands.specs.RowsRead.{rowsOver, refusedOver}
 use Rattle.demands.specs.Demand2.{Holding, keptBy}

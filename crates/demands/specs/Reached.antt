@@ -6,7 +6,9 @@ use mathlib.Core.List.{List, [], _∷_, _++_}
 use Rattle.ordered.specs.Dictionary.{Increasing}
 use Rattle.ordered.specs.Said.{_∈_}
 use Rattle.pretree.specs.Reply.{wrong-header}
-use Rattle.demands.specs.Call.{Call, add, del, has, next, prev, last, after}
+use Rattle.pretree.specs.declared.Call.{Call}
+use Rattle.pretree.specs.declared.Call.the-variants.{Add, Del, Has, Next, Prev, Last}
+use Rattle.pretree.specs.Call.{after}
 use Rattle.demands.specs.RowsRead.{rowsOver}
 
 -- the words whose rows hang each on the right of the one before, down to depth W: with m bits left below the path p, the path and then
@@ -27,16 +29,16 @@ pub record SetOf (W : ℕ) (S : List ℕ) : Type 0 where
 
 pub record Reached (W : ℕ) : Type 0 where
   pub a-set : SetOf W (chain W 0)
-  pub has-reads : rowsOver (has (2 ^ W - 1)) W (chain W 0) ≡ W + 1
-  pub add-reads : rowsOver (add (2 ^ W - 1)) W (chain W 0) ≡ W + 1
-  pub del-reads : rowsOver (del (2 ^ W - 1)) W (chain W 0) ≡ W + 1
-  pub last-reads : rowsOver last W (chain W 0) ≡ W + 1
+  pub has-reads : rowsOver (Has (2 ^ W - 1)) W (chain W 0) ≡ W + 1
+  pub add-reads : rowsOver (Add (2 ^ W - 1)) W (chain W 0) ≡ W + 1
+  pub del-reads : rowsOver (Del (2 ^ W - 1)) W (chain W 0) ≡ W + 1
+  pub last-reads : rowsOver Last W (chain W 0) ≡ W + 1
 
 -- "B `prev` 4: 3, 5 rows. B `next` 3: 4, 5 rows."
 pub record ReachedBeyond (W : ℕ) : Type 0 where
   pub a-set : SetOf W (parted-chain W)
-  pub next-reads : rowsOver (next (2 ^ (W - 1) - 1)) W (parted-chain W) ≡ W + 2
-  pub prev-reads : rowsOver (prev (2 ^ (W - 1))) W (parted-chain W) ≡ W + 2
+  pub next-reads : rowsOver (Next (2 ^ (W - 1) - 1)) W (parted-chain W) ≡ W + 2
+  pub prev-reads : rowsOver (Prev (2 ^ (W - 1))) W (parted-chain W) ≡ W + 2
 
 -- a table in which a call reads n rows, with a header of the width W
 pub record ReadIn (W : ℕ) (c : Call) (n : ℕ) : Type 0 where
@@ -47,8 +49,8 @@ pub record ReadIn (W : ℕ) (c : Call) (n : ℕ) : Type 0 where
 
 -- so a call reads so many rows of some table, at every width that a header may have
 pub record ReachedIn (W : ℕ) : Type 0 where
-  pub has-reads : ReadIn W (has (2 ^ W - 1)) (W + 1)
-  pub del-reads : ReadIn W (del (2 ^ W - 1)) (W + 1)
-  pub last-reads : ReadIn W last (W + 1)
-  pub next-reads : 3 ≤ W → ReadIn W (next (2 ^ (W - 1) - 1)) (W + 2)
-  pub prev-reads : 3 ≤ W → ReadIn W (prev (2 ^ (W - 1))) (W + 2)
+  pub has-reads : ReadIn W (Has (2 ^ W - 1)) (W + 1)
+  pub del-reads : ReadIn W (Del (2 ^ W - 1)) (W + 1)
+  pub last-reads : ReadIn W Last (W + 1)
+  pub next-reads : 3 ≤ W → ReadIn W (Next (2 ^ (W - 1) - 1)) (W + 2)
+  pub prev-reads : 3 ≤ W → ReadIn W (Prev (2 ^ (W - 1))) (W + 2)

@@ -17,21 +17,23 @@ use Rattle.pretree.specs.Table.{capacity, rowAt}
 use Rattle.pretree.specs.Unfold.{shown}
 use Rattle.pretree.specs.Del.{secondWay}
 use Rattle.pretree.specs.Sound.{Sound}
-use Rattle.demands.specs.Call.{Call, new, add, del, has, next, prev, gap, first, last, audit, list, After, after}
+use Rattle.pretree.specs.declared.Call.{Call}
+use Rattle.pretree.specs.declared.Call.the-variants.{New, Add, Del, Has, Next, Prev, Gap, First, Last, Audit}
+use Rattle.pretree.specs.Call.{After, after}
 
 -- the ways of a call, whose rows are its count; the second way of `del` has a count of its own, and the other calls go no way
 unfoldable pub waysOf : Call → Header → List ℕ → List Way
-waysOf (new W) h table = []
-waysOf (add k) h table = adding (h .width) k (shown h table) .rows-read ∷ []
-waysOf (del k) h table = erasing (h .width) k (shown h table) .rows-read ∷ []
-waysOf (has k) h table = reading-has (h .width) k (shown h table) .ways
-waysOf (next k) h table = reading-next (h .width) k (shown h table) .ways
-waysOf (prev k) h table = reading-prev (h .width) k (shown h table) .ways
-waysOf (gap k) h table = reading-gap (h .width) k (shown h table) .ways
-waysOf first h table = reading-first (h .width) (shown h table) .ways
-waysOf last h table = reading-last (h .width) (shown h table) .ways
-waysOf audit h table = []
-waysOf list h table = []
+waysOf (New W) h table = []
+waysOf (Add k) h table = adding (h .width) k (shown h table) .rows-read ∷ []
+waysOf (Del k) h table = erasing (h .width) k (shown h table) .rows-read ∷ []
+waysOf (Has k) h table = reading-has (h .width) k (shown h table) .ways
+waysOf (Next k) h table = reading-next (h .width) k (shown h table) .ways
+waysOf (Prev k) h table = reading-prev (h .width) k (shown h table) .ways
+waysOf (Gap k) h table = reading-gap (h .width) k (shown h table) .ways
+waysOf First h table = reading-first (h .width) (shown h table) .ways
+waysOf Last h table = reading-last (h .width) (shown h table) .ways
+waysOf Audit h table = []
+waysOf Call.List h table = []
 
 -- "W 0 or above 32"
 abbrev pub Wrong-width : ℕ → Type 0
@@ -81,17 +83,17 @@ for-each one two three four five six (suc (suc (suc (suc (suc (suc (suc n)))))))
 
 -- The column "Given when", a line for each call: what the refusals 1, 2, 3, 4, 5 and 6 are given for. ⊥ is never.
 unfoldable pub GivenWhen : Call → Header → List ℕ → List ℕ → ℕ → Type 0
-GivenWhen (new W) h table buffer = for-each (Wrong-width W) ⊥ ⊥ ⊥ ⊥ ⊥
-GivenWhen (add k) h table buffer = for-each ⊥ (Wrong-header h table) (Too-wide h k) (Damage (add k) h table) (Full k h table) ⊥
-GivenWhen (del k) h table buffer = for-each ⊥ (Wrong-header h table) (Too-wide h k) (Damage (del k) h table ⊎ Astray k h table) ⊥ ⊥
-GivenWhen (has k) h table buffer = for-each ⊥ (Wrong-header h table) (Too-wide h k) (Damage (has k) h table) ⊥ ⊥
-GivenWhen (next k) h table buffer = for-each ⊥ (Wrong-header h table) (Too-wide h k) (Damage (next k) h table) ⊥ ⊥
-GivenWhen (prev k) h table buffer = for-each ⊥ (Wrong-header h table) (Too-wide h k) (Damage (prev k) h table) ⊥ ⊥
-GivenWhen (gap k) h table buffer = for-each ⊥ (Wrong-header h table) (Too-wide h k) (Damage (gap k) h table) ⊥ ⊥
-GivenWhen first h table buffer = for-each ⊥ (Wrong-header h table) ⊥ (Damage first h table) ⊥ ⊥
-GivenWhen last h table buffer = for-each ⊥ (Wrong-header h table) ⊥ (Damage last h table) ⊥ ⊥
-GivenWhen audit h table buffer = for-each ⊥ (Wrong-header h table) ⊥ (¬ Sound h table) ⊥ ⊥
-GivenWhen list h table buffer = for-each ⊥ (Wrong-header h table) ⊥ (¬ Sound h table) ⊥ (length buffer < h .count)
+GivenWhen (New W) h table buffer = for-each (Wrong-width W) ⊥ ⊥ ⊥ ⊥ ⊥
+GivenWhen (Add k) h table buffer = for-each ⊥ (Wrong-header h table) (Too-wide h k) (Damage (Add k) h table) (Full k h table) ⊥
+GivenWhen (Del k) h table buffer = for-each ⊥ (Wrong-header h table) (Too-wide h k) (Damage (Del k) h table ⊎ Astray k h table) ⊥ ⊥
+GivenWhen (Has k) h table buffer = for-each ⊥ (Wrong-header h table) (Too-wide h k) (Damage (Has k) h table) ⊥ ⊥
+GivenWhen (Next k) h table buffer = for-each ⊥ (Wrong-header h table) (Too-wide h k) (Damage (Next k) h table) ⊥ ⊥
+GivenWhen (Prev k) h table buffer = for-each ⊥ (Wrong-header h table) (Too-wide h k) (Damage (Prev k) h table) ⊥ ⊥
+GivenWhen (Gap k) h table buffer = for-each ⊥ (Wrong-header h table) (Too-wide h k) (Damage (Gap k) h table) ⊥ ⊥
+GivenWhen First h table buffer = for-each ⊥ (Wrong-header h table) ⊥ (Damage First h table) ⊥ ⊥
+GivenWhen Last h table buffer = for-each ⊥ (Wrong-header h table) ⊥ (Damage Last h table) ⊥ ⊥
+GivenWhen Audit h table buffer = for-each ⊥ (Wrong-header h table) ⊥ (¬ Sound h table) ⊥ ⊥
+GivenWhen Call.List h table buffer = for-each ⊥ (Wrong-header h table) ⊥ (¬ Sound h table) ⊥ (length buffer < h .count)
 
 -- "Order: [..] 1, 2, 3, 4, then 7 or 8, then 5. For `list`: 2, 4, 6.": a refusal is given where no refusal of a lower number is. (7 comes
 -- before 5 because 5 is for an absent word.)

@@ -18,22 +18,24 @@ use Rattle.pretree.specs.Table.{capacity, rowAt}
 use Rattle.pretree.specs.Unfold.{shown}
 use Rattle.pretree.specs.Answer.{numberOf}
 use Rattle.pretree.specs.Reply.{wrong-width, wrong-header}
-use Rattle.demands.specs.Call.{Call, new, add, del, has, next, prev, gap, first, last, audit, list, after}
+use Rattle.pretree.specs.declared.Call.{Call}
+use Rattle.pretree.specs.declared.Call.the-variants.{New, Add, Del, Has, Next, Prev, Gap, First, Last, Audit}
+use Rattle.pretree.specs.Call.{after}
 use Rattle.demands.specs.SoundIs.{HoldsSet}
 
 -- the rows of the ways of a call over the PreTree of the words of S. "`new` reads no row"; `audit` and `list`: "Both count `count` rows."
 unfoldable pub rowsOver : Call → ℕ → List ℕ → ℕ
-rowsOver (new w) W S = 0
-rowsOver (add k) W S = rows (adding W k (treeOf W S) .rows-read)
-rowsOver (del k) W S = rows (erasing W k (treeOf W S) .rows-read)
-rowsOver (has k) W S = rowsOf (has-over W k (treeOf W S) .ways)
-rowsOver (next k) W S = rowsOf (next-over W k (treeOf W S) .ways)
-rowsOver (prev k) W S = rowsOf (prev-over W k (treeOf W S) .ways)
-rowsOver (gap k) W S = rowsOf (gap-over W k (treeOf W S) .ways)
-rowsOver first W S = rowsOf (first-over W (treeOf W S) .ways)
-rowsOver last W S = rowsOf (last-over W (treeOf W S) .ways)
-rowsOver audit W S = length S
-rowsOver list W S = length S
+rowsOver (New w) W S = 0
+rowsOver (Add k) W S = rows (adding W k (treeOf W S) .rows-read)
+rowsOver (Del k) W S = rows (erasing W k (treeOf W S) .rows-read)
+rowsOver (Has k) W S = rowsOf (has-over W k (treeOf W S) .ways)
+rowsOver (Next k) W S = rowsOf (next-over W k (treeOf W S) .ways)
+rowsOver (Prev k) W S = rowsOf (prev-over W k (treeOf W S) .ways)
+rowsOver (Gap k) W S = rowsOf (gap-over W k (treeOf W S) .ways)
+rowsOver First W S = rowsOf (first-over W (treeOf W S) .ways)
+rowsOver Last W S = rowsOf (last-over W (treeOf W S) .ways)
+rowsOver Audit W S = length S
+rowsOver Call.List W S = length S
 
 -- whether the last row moves at a `del` of k: the word is there, and "the hole is not row count−1"
 unfoldable pub moves : Header → List ℕ → List ℕ → ℕ → Bool
@@ -41,34 +43,34 @@ moves h table S k = lookup k S && not (eqb (erasing (h .width) k (shown h table)
 
 -- "The rows of the second way", that of the last row's key, "are the moving count; it is 0 where nothing moves, and in every other call."
 unfoldable pub movedOver : Call → Header → List ℕ → List ℕ → ℕ
-movedOver (new w) h table S = 0
-movedOver (add k) h table S = 0
-movedOver (del k) h table S =
+movedOver (New w) h table S = 0
+movedOver (Add k) h table S = 0
+movedOver (Del k) h table S =
     let last-key : ℕ = rowAt table (pred (h .count)) .entry .key in
     if moves h table S k then rows (way (following last-key) (h .width) (treeOf (h .width) S))
     else 0
-movedOver (has k) h table S = 0
-movedOver (next k) h table S = 0
-movedOver (prev k) h table S = 0
-movedOver (gap k) h table S = 0
-movedOver first h table S = 0
-movedOver last h table S = 0
-movedOver audit h table S = 0
-movedOver list h table S = 0
+movedOver (Has k) h table S = 0
+movedOver (Next k) h table S = 0
+movedOver (Prev k) h table S = 0
+movedOver (Gap k) h table S = 0
+movedOver First h table S = 0
+movedOver Last h table S = 0
+movedOver Audit h table S = 0
+movedOver Call.List h table S = 0
 
 -- what a call is refused for on a table that holds S, with room for so many rows, and a buffer of so many words: 1, 3, 5 and 6 alone
 unfoldable pub refusedOver : Call → ℕ → List ℕ → ℕ → ℕ → Bool
-refusedOver (new w) W S room space = wrong-width w
-refusedOver (add k) W S room space = leb (2 ^ W) k || (not (lookup k S) && eqb (length S) room)
-refusedOver (del k) W S room space = leb (2 ^ W) k
-refusedOver (has k) W S room space = leb (2 ^ W) k
-refusedOver (next k) W S room space = leb (2 ^ W) k
-refusedOver (prev k) W S room space = leb (2 ^ W) k
-refusedOver (gap k) W S room space = leb (2 ^ W) k
-refusedOver first W S room space = false
-refusedOver last W S room space = false
-refusedOver audit W S room space = false
-refusedOver list W S room space = ltb space (length S)
+refusedOver (New w) W S room space = wrong-width w
+refusedOver (Add k) W S room space = leb (2 ^ W) k || (not (lookup k S) && eqb (length S) room)
+refusedOver (Del k) W S room space = leb (2 ^ W) k
+refusedOver (Has k) W S room space = leb (2 ^ W) k
+refusedOver (Next k) W S room space = leb (2 ^ W) k
+refusedOver (Prev k) W S room space = leb (2 ^ W) k
+refusedOver (Gap k) W S room space = leb (2 ^ W) k
+refusedOver First W S room space = false
+refusedOver Last W S room space = false
+refusedOver Audit W S room space = false
+refusedOver Call.List W S room space = ltb space (length S)
 
 -- "1 to 6 and 9 are refusals"; 9 is the line program's
 abbrev pub isRefusal : ℕ → Bool
@@ -97,31 +99,31 @@ RowsAlike =
 
 -- the most rows that a call reads
 unfoldable pub mostRows : Call → Header → ℕ
-mostRows (new w) h = 0
-mostRows (add k) h = h .width + 1
-mostRows (del k) h = h .width + 1
-mostRows (has k) h = h .width + 1
-mostRows (next k) h = h .width + 2
-mostRows (prev k) h = h .width + 2
-mostRows (gap k) h = 2 * h .width + 4
-mostRows first h = h .width + 1
-mostRows last h = h .width + 1
-mostRows audit h = h .count
-mostRows list h = h .count
+mostRows (New w) h = 0
+mostRows (Add k) h = h .width + 1
+mostRows (Del k) h = h .width + 1
+mostRows (Has k) h = h .width + 1
+mostRows (Next k) h = h .width + 2
+mostRows (Prev k) h = h .width + 2
+mostRows (Gap k) h = 2 * h .width + 4
+mostRows First h = h .width + 1
+mostRows Last h = h .width + 1
+mostRows Audit h = h .count
+mostRows Call.List h = h .count
 
 -- and the most that it reads for a move
 unfoldable pub mostMoved : Call → Header → ℕ
-mostMoved (new w) h = 0
-mostMoved (add k) h = 0
-mostMoved (del k) h = h .width + 1
-mostMoved (has k) h = 0
-mostMoved (next k) h = 0
-mostMoved (prev k) h = 0
-mostMoved (gap k) h = 0
-mostMoved first h = 0
-mostMoved last h = 0
-mostMoved audit h = 0
-mostMoved list h = 0
+mostMoved (New w) h = 0
+mostMoved (Add k) h = 0
+mostMoved (Del k) h = h .width + 1
+mostMoved (Has k) h = 0
+mostMoved (Next k) h = 0
+mostMoved (Prev k) h = 0
+mostMoved (Gap k) h = 0
+mostMoved First h = 0
+mostMoved Last h = 0
+mostMoved Audit h = 0
+mostMoved Call.List h = 0
 
 pub record AtMost (read moving : ℕ) (r : Reply) : Type 0 where
   pub few-read : r .rows ≤ read

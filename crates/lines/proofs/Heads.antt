@@ -10,12 +10,12 @@ use lib.Dec.{T, ltb, eqb, ltb→lt}
 use lib.ListN.{length, getD, take, drop, length-drop}
 use lib.Seq.{take-all}
 use Rattle.ordered.specs.Such.{if_then_else_, Perhaps, no-such, such, first-of}
-use Rattle.lines.specs.declared.Call.{Call}
+use Rattle.pretree.specs.declared.Call.{Call}
 use Rattle.lines.specs.declared.Line.{Line}
 use Rattle.lines.specs.declared.Line.the-variants.{Unread}
 use Rattle.lines.specs.declared.Number.the-variants.{Of, Nothing}
 use Rattle.lines.specs.Text.{bytes}
-use Rattle.lines.specs.Line.{parse, asNumber, after, Form, with-number, alone, operations, firstRead, if-nothing, lineOf}
+use Rattle.lines.specs.Line.{parse, asNumber, afterWord, Form, with-number, alone, operations, firstRead, if-nothing, lineOf}
 use Rattle.lines.specs.Head.{packed, headOf, afterHead, byHead}
 use Rattle.lines.proofs.Tests.{either, both}
 
@@ -45,8 +45,8 @@ same-read p q h (alone word call ∷ fs) t =
     rw (h (bytes word) (b .0), same-read p q h fs (b .1))
 
 -- a word does not begin a line that is shorter
-pub too-short : (word line : List ℕ) → length line < length word → after word line ≡ no-such
-unfolding after
+pub too-short : (word line : List ℕ) → length line < length word → afterWord word line ≡ no-such
+unfolding afterWord
 too-short [] line h = absurd (omega arith)
 too-short (b ∷ word) [] h = refl
 too-short (b ∷ word) (c ∷ line) h =
@@ -62,8 +62,8 @@ long-word (a ∷ b ∷ c ∷ d ∷ word) t = omega arith
 pub short-unread : (line : List ℕ) → length line < 4 → parse line ≡ Unread
 unfolding parse
 short-unread line h =
-    let none : (word : List ℕ) → T (isLong word) → after word line ≡ no-such = λ word t. too-short word line (omega (arith, long-word word t)) in
-    simp (le-ltb 64 (length line) (omega arith), same-read (λ word. after word line) (λ word. no-such) none operations tt)
+    let none : (word : List ℕ) → T (isLong word) → afterWord word line ≡ no-such = λ word t. too-short word line (omega (arith, long-word word t)) in
+    simp (le-ltb 64 (length line) (omega arith), same-read (λ word. afterWord word line) (λ word. no-such) none operations tt)
 
 pub long-unread : (line : List ℕ) → 64 < length line → parse line ≡ Unread
 unfolding parse
@@ -80,8 +80,8 @@ module _ (a e : ℕ) {b c d f g h : ℕ} (bs : b < 256) (cs : c < 256) (ds : d <
 
   after-four :
       (word rest : List ℕ)
-      → after (a ∷ b ∷ c ∷ d ∷ word) (e ∷ f ∷ g ∷ h ∷ rest) ≡ (if eqb (packed e f g h) (packed a b c d) then after word rest else no-such)
-  unfolding after
+      → afterWord (a ∷ b ∷ c ∷ d ∷ word) (e ∷ f ∷ g ∷ h ∷ rest) ≡ (if eqb (packed e f g h) (packed a b c d) then afterWord word rest else no-such)
+  unfolding afterWord
   after-four word rest =
       ⊎-elim
       (λ (t : eqb (packed e f g h) (packed a b c d) ≡ true).
@@ -91,7 +91,7 @@ module _ (a e : ℕ) {b c d f g h : ℕ} (bs : b < 256) (cs : c < 256) (ds : d <
       (either (eqb (packed e f g h) (packed a b c d)))
     where
       differing :
-          eqb (packed e f g h) (packed a b c d) ≡ false → after (a ∷ b ∷ c ∷ d ∷ word) (e ∷ f ∷ g ∷ h ∷ rest) ≡ no-such
+          eqb (packed e f g h) (packed a b c d) ≡ false → afterWord (a ∷ b ∷ c ∷ d ∷ word) (e ∷ f ∷ g ∷ h ∷ rest) ≡ no-such
       differing t =
           ⊎-elim
           (λ (q : eqb a e ≡ true).
@@ -117,9 +117,9 @@ by-head (e ∷ []) l m small = absurd (omega arith)
 by-head (e ∷ f ∷ []) l m small = absurd (omega arith)
 by-head (e ∷ f ∷ g ∷ []) l m small = absurd (omega arith)
 by-head (e ∷ f ∷ g ∷ h ∷ rest) l m small =
-    simp (le-ltb 64 (length (e ∷ f ∷ g ∷ h ∷ rest)) m, same-read (λ word. after word (e ∷ f ∷ g ∷ h ∷ rest)) (afterHead (packed e f g h) rest) agree operations tt)
+    simp (le-ltb 64 (length (e ∷ f ∷ g ∷ h ∷ rest)) m, same-read (λ word. afterWord word (e ∷ f ∷ g ∷ h ∷ rest)) (afterHead (packed e f g h) rest) agree operations tt)
   where
-    agree : (word : List ℕ) → T (isLong word) → after word (e ∷ f ∷ g ∷ h ∷ rest) ≡ afterHead (packed e f g h) rest word
+    agree : (word : List ℕ) → T (isLong word) → afterWord word (e ∷ f ∷ g ∷ h ∷ rest) ≡ afterHead (packed e f g h) rest word
     agree [] t = absurd t
     agree (a ∷ []) t = absurd t
     agree (a ∷ b ∷ []) t = absurd t
@@ -137,18 +137,18 @@ only (such call) h = h
 
 -- one byte more behind the head
 module _ (b : ℕ) where
-  pub after-none : (rest : List ℕ) → length rest ≡ 0 → after (b ∷ []) rest ≡ no-such
-  unfolding after
+  pub after-none : (rest : List ℕ) → length rest ≡ 0 → afterWord (b ∷ []) rest ≡ no-such
+  unfolding afterWord
   after-none [] h = refl
   after-none (x ∷ rest) h = absurd (omega arith)
 
-  pub after-other : (rest : List ℕ) → (length rest ≡ 0 → ⊥) → (getD rest 0 0 ≡ b → ⊥) → after (b ∷ []) rest ≡ no-such
-  unfolding after
+  pub after-other : (rest : List ℕ) → (length rest ≡ 0 → ⊥) → (getD rest 0 0 ≡ b → ⊥) → afterWord (b ∷ []) rest ≡ no-such
+  unfolding afterWord
   after-other [] h d = refl
   after-other (x ∷ rest) h d = simp (ne-eqb b x (λ e. d (sym e)))
 
-  pub after-one : (rest : List ℕ) → (length rest ≡ 0 → ⊥) → getD rest 0 0 ≡ b → after (b ∷ []) rest ≡ such (drop 1 rest)
-  unfolding after
+  pub after-one : (rest : List ℕ) → (length rest ≡ 0 → ⊥) → getD rest 0 0 ≡ b → afterWord (b ∷ []) rest ≡ such (drop 1 rest)
+  unfolding afterWord
   after-one [] h e = absurd (h refl)
   after-one (x ∷ rest) h e = simp (eq-eqb b x (sym e))
 

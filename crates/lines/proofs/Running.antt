@@ -14,14 +14,15 @@ use Rattle.pretree.specs.Answer.{numberOf}
 use Rattle.pretree.specs.Reply.{wrong-header}
 use Rattle.pretree.specs.Sound.{isSound}
 use Rattle.pretree.specs.Whole.{listReply}
-use Rattle.lines.specs.declared.Call.{Call}
-use Rattle.lines.specs.declared.Call.the-variants.{New, Add, Del, Has, Next, Prev, Gap, First, Last, Audit}
+use Rattle.pretree.specs.Call.{after}
+use Rattle.pretree.specs.declared.Call.{Call}
+use Rattle.pretree.specs.declared.Call.the-variants.{New, Add, Del, Has, Next, Prev, Gap, First, Last, Audit}
 use Rattle.lines.specs.declared.Line.{Line}
 use Rattle.lines.specs.declared.Line.the-variants.{Read, Unread}
 use Rattle.lines.specs.declared.answer.Ran.{Ran}
 use Rattle.lines.specs.declared.answer.Heard.{Heard}
 use Rattle.lines.specs.Render.{notRead, replyLine, keyLines, Put}
-use Rattle.lines.specs.Output.{State, run, listedIn, answer}
+use Rattle.lines.specs.Output.{State, listedIn, listedBy, answer, written}
 use Rattle.lines.specs.Answering.{Runs, heardOf, stateOf, Hears, Answers}
 use Rattle.lines.proofs.Tests.{either}
 use Rattle.lines.proofs.Puts.{put-then}
@@ -43,8 +44,8 @@ list-within h t b =
     (either (isSound h t)))
     (either (wrong-header h t))
 
-pub listed-within : (h : Header) (t b : List ℕ) (call : Call) → run h t b call .listed ≤ length b
-unfolding run
+pub listed-within : (h : Header) (t b : List ℕ) (call : Call) → listedBy call (after call h t b .reply) ≤ length b
+unfolding listedBy after
 listed-within h t b (New k) = omega arith
 listed-within h t b (Add k) = omega arith
 listed-within h t b (Del k) = omega arith
@@ -60,9 +61,9 @@ listed-within h t b Audit = omega arith
 -- a line whose call was run, and a line that is not read
 module _ (s : State) where
   pub call-heard :
-      (call : Call) {r : Ran} {rows words : List ℕ} → Runs (run (s .header) (s .table) (s .buffer) call) r rows words → length words ≡ length (s .buffer)
+      (call : Call) {r : Ran} {rows words : List ℕ} → Runs call (after call (s .header) (s .table) (s .buffer)) r rows words → length words ≡ length (s .buffer)
       → Hears (answer s (Read call)) (s .lines) (heardOf r) rows words
-  unfolding answer
+  unfolding answer written
   call-heard call h size =
       record {
         state = rw (h .reply, h .table, h .buffer, add-one);
@@ -71,13 +72,13 @@ module _ (s : State) where
       }
 
   pub unread-heard : Hears (answer s Unread) (s .lines) (record { header = s .header; said = notRead; listed = 0 }) (s .table) (s .buffer)
-  unfolding answer keyLines
-  unread-heard = record { state = rw add-one; written = rw (add-one, append-nil); within = omega arith }
+  unfolding answer written keyLines
+  unread-heard = record { state = rw add-one; written = rw add-one; within = omega arith }
 
   -- what is to be written was put
   pub heard-answered :
-      (read : Line) {r : Heard} {after : Header} {rows words out middle left : List ℕ} {at next end to : ℕ} → Hears (answer s read) (s .lines) r rows words
-      → after ≡ r .header → Put out at (replyLine (s .lines + 1) (r .said)) middle next → Put middle next (keyLines (take (r .listed) words)) left end
+      (read : Line) {r : Heard} {next-header : Header} {rows words out middle left : List ℕ} {at next end to : ℕ} → Hears (answer s read) (s .lines) r rows words
+      → next-header ≡ r .header → Put out at (replyLine (s .lines + 1) (r .said)) middle next → Put middle next (keyLines (take (r .listed) words)) left end
       → to ≡ end → to ≤ length left
-      → Answers (answer s read) (stateOf after rows words (s .lines + 1)) out at left to
+      → Answers (answer s read) (stateOf next-header rows words (s .lines + 1)) out at left to
   heard-answered read h e p q t f = record { state = rw e (h .state); put = rw (t, ← h .written) (put-then p q); fits = f }

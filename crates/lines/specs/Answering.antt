@@ -7,15 +7,16 @@ use Rattle.pretree.specs.declared.Header.{Header}
 use Rattle.pretree.specs.declared.Reply.{Reply}
 use Rattle.pretree.specs.Find.{hasReply, nextReply, prevReply, firstReply, lastReply, gapReply}
 use Rattle.pretree.specs.Whole.{auditReply}
-use Rattle.lines.specs.declared.Call.{Call}
-use Rattle.lines.specs.declared.Call.the-variants.{New, Add, Del, Has, Next, Prev, Gap, First, Last, Audit}
+use Rattle.pretree.specs.Call.{After}
+use Rattle.pretree.specs.declared.Call.{Call}
+use Rattle.pretree.specs.declared.Call.the-variants.{New, Add, Del, Has, Next, Prev, Gap, First, Last, Audit}
 use Rattle.lines.specs.declared.answer.Ran.{Ran}
 use Rattle.lines.specs.declared.answer.Heard.{Heard}
 use Rattle.lines.specs.declared.answer.Told.{Told}
 use Rattle.lines.specs.declared.session.Session.{Session as Kept}
 use Rattle.lines.specs.declared.session.Went.{Went}
 use Rattle.lines.specs.Render.{saidOf, replyLine, keyLines, Put}
-use Rattle.lines.specs.Output.{State, Outcome, Step, Session, taken, told}
+use Rattle.lines.specs.Output.{State, listedBy, Step, written, Session, taken, told}
 use Rattle.lines.specs.Gather.{Held}
 
 -- the reply of a call that leaves the table and the buffer as they are; the other calls are not asked for, and are taken for `audit`
@@ -32,12 +33,12 @@ looked h t Last = lastReply h t
 looked h t Call.List = auditReply h t
 looked h t Audit = auditReply h t
 
--- a call was run, and this is what it left
-pub record Runs (o : Outcome) (r : Ran) (rows words : List ℕ) : Type 0 where
-  pub reply : r .reply ≡ o .reply
-  pub listed : r .listed ≡ o .listed
-  pub table : rows ≡ o .table
-  pub buffer : words ≡ o .buffer
+-- a call was run: its reply, how many words are listed behind it, and what it left
+pub record Runs (call : Call) (a : After) (r : Ran) (rows words : List ℕ) : Type 0 where
+  pub reply : r .reply ≡ a .reply
+  pub listed : r .listed ≡ listedBy call (a .reply)
+  pub table : rows ≡ a .table
+  pub buffer : words ≡ a .buffer
 
 abbrev pub stateOf : Header → List ℕ → List ℕ → ℕ → State
 stateOf h table buffer lines = record { header = h; table = table; buffer = buffer; lines = lines }
@@ -49,13 +50,13 @@ heardOf r = record { header = r .reply .header; said = saidOf (r .reply); listed
 -- a line was heard: the state is the one after it, and this is to be written for it
 pub record Hears (s : Step) (lines : ℕ) (r : Heard) (rows words : List ℕ) : Type 0 where
   pub state : stateOf (r .header) rows words (lines + 1) ≡ s .state
-  pub written : replyLine (lines + 1) (r .said) ++ keyLines (take (r .listed) words) ≡ s .written
+  pub written : replyLine (lines + 1) (r .said) ++ keyLines (take (r .listed) words) ≡ written s
   pub within : r .listed ≤ length words
 
 -- a line was answered: the state is the one after it, and what is written for it was put at the place `at`
 pub record Answers (s : Step) (after : State) (out : List ℕ) (at : ℕ) (left : List ℕ) (next : ℕ) : Type 0 where
   pub state : after ≡ s .state
-  pub put : Put out at (s .written) left next
+  pub put : Put out at (written s) left next
   pub fits : next ≤ length left
 
 -- what a session is behind a line that ended

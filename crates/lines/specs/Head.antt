@@ -5,12 +5,12 @@ use mathlib.Core.List.{List, [], _∷_}
 use lib.Dec.{eqb}
 use lib.ListN.{getD, drop}
 use Rattle.ordered.specs.Such.{if_then_else_, Perhaps, no-such, such}
-use Rattle.lines.specs.declared.Call.{Call}
-use Rattle.lines.specs.declared.Call.the-variants.{New, Add, Del, Has, Next, Prev, Gap}
+use Rattle.pretree.specs.declared.Call.{Call}
+use Rattle.pretree.specs.declared.Call.the-variants.{New, Add, Del, Has, Next, Prev, Gap}
 use Rattle.lines.specs.declared.Line.{Line}
 use Rattle.lines.specs.declared.parse.Word.{Word}
 use Rattle.lines.specs.declared.parse.Word.the-variants as W
-use Rattle.lines.specs.Line.{number, after, operations, firstRead, called, with-rest, if-nothing, lineOf}
+use Rattle.lines.specs.Line.{number, afterWord, operations, firstRead, called, with-rest, if-nothing, lineOf}
 
 abbrev pub packed : ℕ → ℕ → ℕ → ℕ → ℕ
 packed a b c d = ((a * 256 + b) * 256 + c) * 256 + d
@@ -20,7 +20,7 @@ headOf bytes = packed (getD bytes 0 0) (getD bytes 1 0) (getD bytes 2 0) (getD b
 
 -- what stands behind a word in the line with this head and this rest
 abbrev pub afterHead : ℕ → List ℕ → List ℕ → Perhaps (List ℕ)
-afterHead head rest word = if eqb head (headOf word) then after (drop 4 word) rest else no-such
+afterHead head rest word = if eqb head (headOf word) then afterWord (drop 4 word) rest else no-such
 
 unfoldable pub byHead : ℕ → List ℕ → Line
 byHead head rest = lineOf (firstRead (afterHead head rest) operations)
@@ -39,7 +39,7 @@ unfoldable pub numbered : Word → List ℕ → Perhaps Call
 numbered word digits = called (callOf word) (number digits)
 
 unfoldable pub numberedAfter : ℕ → Word → List ℕ → Perhaps Call
-numberedAfter b word rest = with-rest (numbered word) (after (b ∷ []) rest)
+numberedAfter b word rest = with-rest (numbered word) (afterWord (b ∷ []) rest)
 
 unfoldable pub aloneAfter : ℕ → Call → List ℕ → Perhaps Call
-aloneAfter b call rest = with-rest (if-nothing call) (after (b ∷ []) rest)
+aloneAfter b call rest = with-rest (if-nothing call) (afterWord (b ∷ []) rest)

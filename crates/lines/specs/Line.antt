@@ -8,8 +8,8 @@ use mathlib.Core.List.{List, [], _∷_, _++_}
 use lib.Dec.{ltb, leb, eqb}
 use lib.ListN.{length}
 use Rattle.ordered.specs.Such.{if_then_else_, Perhaps, no-such, such, first-of}
-use Rattle.lines.specs.declared.Call.{Call}
-use Rattle.lines.specs.declared.Call.the-variants.{New, Add, Del, Has, Next, Prev, Gap, First, Last, Audit}
+use Rattle.pretree.specs.declared.Call.{Call}
+use Rattle.pretree.specs.declared.Call.the-variants.{New, Add, Del, Has, Next, Prev, Gap, First, Last, Audit}
 use Rattle.lines.specs.declared.Line.{Line}
 use Rattle.lines.specs.declared.Line.the-variants.{Read, Unread}
 use Rattle.lines.specs.declared.Number.{Number}
@@ -48,10 +48,10 @@ asNumber no-such = Nothing
 asNumber (such k) = Of k
 
 -- what stands after a word with which a line begins
-unfoldable pub after : List ℕ → List ℕ → Perhaps (List ℕ)
-after [] line = such line
-after (b ∷ word) [] = no-such
-after (b ∷ word) (c ∷ line) = if eqb b c then after word line else no-such
+unfoldable pub afterWord : List ℕ → List ℕ → Perhaps (List ℕ)
+afterWord [] line = such line
+afterWord (b ∷ word) [] = no-such
+afterWord (b ∷ word) (c ∷ line) = if eqb b c then afterWord word line else no-such
 
 -- the forms of a line: a word, then one tab and a number; or a word with nothing after
 pub data Form : Type 0 where
@@ -100,4 +100,4 @@ lineOf no-such = Unread
 lineOf (such call) = Read call
 
 unfoldable pub parse : List ℕ → Line
-parse line = if ltb 64 (length line) then Unread else lineOf (firstRead (λ word. after word line) operations)
+parse line = if ltb 64 (length line) then Unread else lineOf (firstRead (λ word. afterWord word line) operations)

@@ -9,14 +9,12 @@ use Rattle.pretree.specs.declared.Header.{Header}
 use Rattle.pretree.specs.declared.Reply.{Reply}
 use Rattle.pretree.specs.Answer.{numberOf}
 use Rattle.pretree.specs.Reply.{fresh}
-use Rattle.pretree.specs.Find.{hasReply, nextReply, prevReply, firstReply, lastReply, gapReply}
-use Rattle.pretree.specs.Add.{addOutcome}
-use Rattle.pretree.specs.Del.{delOutcome}
-use Rattle.pretree.specs.Whole.{newReply, newTable, auditReply, listReply, listBuffer}
-use Rattle.lines.specs.declared.Call.{Call}
-use Rattle.lines.specs.declared.Call.the-variants.{New, Add, Del, Has, Next, Prev, Gap, First, Last, Audit}
+use Rattle.pretree.specs.Call.{After, after}
+use Rattle.pretree.specs.declared.Call.{Call}
+use Rattle.pretree.specs.declared.Call.the-variants.{New, Add, Del, Has, Next, Prev, Gap, First, Last, Audit}
 use Rattle.lines.specs.declared.Line.{Line}
 use Rattle.lines.specs.declared.Line.the-variants.{Read, Unread}
+use Rattle.lines.specs.declared.Said.{Said}
 use Rattle.lines.specs.Line.{parse}
 use Rattle.lines.specs.Render.{saidOf, notRead, replyLine, keyLines}
 
@@ -31,56 +29,52 @@ pub record State : Type 0 where
 abbrev pub start : State
 start = record { header = fresh 0; table = replicate (3 * 4096) 0; buffer = replicate 4096 0; lines = 0 }
 
--- what a call replies, the table and the buffer after it, and how many words of the buffer are listed behind the reply
-pub record Outcome : Type 0 where
-  pub reply : Reply
-  pub table : List ℕ
-  pub buffer : List ℕ
-  pub listed : ℕ
-
--- a call that lists nothing
-abbrev pub leaving : List ℕ → List ℕ → Reply → Outcome
-leaving table buffer r = record { reply = r; table = table; buffer = buffer; listed = 0 }
-
--- "After a `list` with answer 0"
+-- how many words of the buffer are listed behind a reply: "After a `list` with answer 0"
 abbrev pub listedIn : Reply → ℕ
 listedIn r = if eqb (numberOf (r .answer)) 0 then r .header .count else 0
 
-unfoldable pub run : Header → List ℕ → List ℕ → Call → Outcome
-run h t b (New width) = leaving (newTable t width) b (newReply h width)
-run h t b (Add k) = leaving (addOutcome h t k .table) b (addOutcome h t k .reply)
-run h t b (Del k) = leaving (delOutcome h t k .table) b (delOutcome h t k .reply)
-run h t b (Has k) = leaving t b (hasReply h t k)
-run h t b (Next k) = leaving t b (nextReply h t k)
-run h t b (Prev k) = leaving t b (prevReply h t k)
-run h t b (Gap k) = leaving t b (gapReply h t k)
-run h t b First = leaving t b (firstReply h t)
-run h t b Last = leaving t b (lastReply h t)
-run h t b Call.List = record { reply = listReply h t b; table = t; buffer = listBuffer h t b; listed = listedIn (listReply h t b) }
-run h t b Audit = leaving t b (auditReply h t)
+unfoldable pub listedBy : Call → Reply → ℕ
+listedBy (New w) r = 0
+listedBy (Add k) r = 0
+listedBy (Del k) r = 0
+listedBy (Has k) r = 0
+listedBy (Next k) r = 0
+listedBy (Prev k) r = 0
+listedBy (Gap k) r = 0
+listedBy First r = 0
+listedBy Last r = 0
+listedBy Call.List r = listedIn r
+listedBy Audit r = 0
 
--- the state after a line, and what is written for it
+-- the state after a line, what its reply says, and the words that are listed behind it
 pub record Step : Type 0 where
   pub state : State
-  pub written : List ℕ
+  pub said : Said
+  pub listed : List ℕ
 
 unfoldable pub answer : State → Line → Step
 answer s Unread =
     record {
       state = record { header = s .header; table = s .table; buffer = s .buffer; lines = suc (s .lines) };
-      written = replyLine (suc (s .lines)) notRead;
+      said = notRead;
+      listed = [];
     }
 answer s (Read call) =
-    let o : Outcome = run (s .header) (s .table) (s .buffer) call in
+    let a : After = after call (s .header) (s .table) (s .buffer) in
     record {
-      state = record { header = o .reply .header; table = o .table; buffer = o .buffer; lines = suc (s .lines) };
-      written = replyLine (suc (s .lines)) (saidOf (o .reply)) ++ keyLines (take (o .listed) (o .buffer));
+      state = record { header = a .reply .header; table = a .table; buffer = a .buffer; lines = suc (s .lines) };
+      said = saidOf (a .reply);
+      listed = take (listedBy call (a .reply)) (a .buffer);
     }
+
+-- "Each line gives one reply line: line number from 1 [..]"
+unfoldable pub written : Step → List ℕ
+written a = replyLine (a .state .lines) (a .said) ++ keyLines (a .listed)
 
 -- what is written for lines, one after the other, and the state after them
 unfoldable pub writtenFor : State → List (List ℕ) → List ℕ
 writtenFor s [] = []
-writtenFor s (line ∷ rest) = let a : Step = answer s (parse line) in a .written ++ writtenFor (a .state) rest
+writtenFor s (line ∷ rest) = let a : Step = answer s (parse line) in written a ++ writtenFor (a .state) rest
 
 unfoldable pub stateAfter : State → List (List ℕ) → State
 stateAfter s [] = s

@@ -1,6 +1,5 @@
 // Answering one line: it is read, its call is run, and the reply is put into a lent buffer.
 
-use crate::Call;
 use crate::Line;
 use crate::Said;
 use crate::parse::parse;
@@ -9,13 +8,15 @@ use crate::put::put_reply;
 use crate::reply::not_read;
 use crate::reply::number_of;
 use crate::reply::said;
+use pretree::Call;
 use pretree::Header;
 use pretree::Reply;
 ghost use mathlib.Core.Path.{_≡_};
 ghost use Prim.Native.Nat.{ℕ, _+_, _*_, _<_, _≤_, _^_};
 ghost use lib.ListN.{length};
+ghost use Rattle.pretree.specs.Call.{after};
 ghost use Rattle.lines.specs.Line.{parse};
-ghost use Rattle.lines.specs.Output.{run, answer, listedIn};
+ghost use Rattle.lines.specs.Output.{answer, listedIn};
 ghost use Rattle.lines.specs.Answering.{looked, Runs, heardOf, stateOf, Hears, Answers};
 
 // What a call replied, and how many words of the buffer are listed behind the reply.
@@ -46,7 +47,7 @@ fn listed(reply: Reply) -> Ran
 }
 
 fn run(call: Call, header: Header, table: &mut [u32], words: &mut [u32]) -> Ran
-    ensures { λ r. ⌜ Runs (run header (now (table .entry)) (now (words .entry)) call) r (now (table .exit)) (now (words .exit)) ⌝ }
+    ensures { λ r. ⌜ Runs call (after call header (now (table .entry)) (now (words .entry))) r (now (table .exit)) (now (words .exit)) ⌝ }
 {
     match call {
         Call::New(width) => unlisted(header.new(table, width)),

@@ -9,22 +9,8 @@ mod reply;
 mod serve;
 mod session;
 
+use pretree::Call;
 pub use serve::run;
-
-// A call that a line asks for.
-pub enum Call {
-    New(u32),
-    Add(u32),
-    Del(u32),
-    Has(u32),
-    Next(u32),
-    Prev(u32),
-    Gap(u32),
-    First,
-    Last,
-    List,
-    Audit,
-}
 
 // What a line is read as. "Anything else [..] is answer 9."
 pub enum Line {

@@ -1,8 +1,8 @@
 // Reading a line: specs/Line.antt says what each line means.
 
-use crate::Call;
 use crate::Line;
 use crate::Number;
+use pretree::Call;
 ghost use mathlib.Core.Path.{_≡_};
 ghost use Rattle.lines.specs.Line.{parse, number, asNumber, if-nothing, lineOf};
 ghost use Rattle.lines.specs.Head.{packed, byHead, callOf, numbered, numberedAfter, aloneAfter};

@@ -8,6 +8,7 @@ pub mod Find
 pub mod Add
 pub mod Del
 pub mod Whole
+pub mod Call
 pub mod Part
 pub mod Walk
 pub mod Skim

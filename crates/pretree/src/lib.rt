@@ -62,6 +62,21 @@ pub struct Reply {
     pub moved: u32,
 }
 
+// A call, with its number where it takes one. `after`, in specs/Call.antt, says what each answers and leaves.
+pub enum Call {
+    New(u32),
+    Add(u32),
+    Del(u32),
+    Has(u32),
+    Next(u32),
+    Prev(u32),
+    Gap(u32),
+    First,
+    Last,
+    List,
+    Audit,
+}
+
 // What a push or an erase moves from row to row.
 pub struct Entry {
     pub key: u32,
