@@ -299,7 +299,7 @@ module _ (h : Header) (table S : List ℕ) (H : Holding h table S) (k : ℕ) whe
   unfolding addOutcome too-wide
   outcome-so = rw (H .right-header, adding-unbroken (h .width) t (undamaged H) k)
 
-  pub keeps-add : (buffer : List ℕ) → KeepsDictionary (Add k) h table buffer S
+  pub keeps-add : (buffer : List ℕ) → KeepsDictionary after (Add k) h table buffer S
   unfolding after expected kept-after changed numberOf keyOf
   keeps-add buffer = rw outcome-so (by-width (leb (2 ^ h .width) k) refl (a .present) (λ small. present-so small))
     where

@@ -141,19 +141,19 @@ module _ (h : Header) (table buffer S : List ℕ) (H : Holding h table S) where
   t = shown h table
 
   module _ (k : ℕ) where
-    pub keeps-has : KeepsDictionary (Has k) h table buffer S
+    pub keeps-has : KeepsDictionary after (Has k) h table buffer S
     unfolding after expected kept-after changed hasReply too-wide
     keeps-has =
         read (leb (2 ^ h .width) k) done (has-read (h .width) k t) (if lookup k S then only 0 else only 8) (has-unbroken (h .width) t (undamaged H) k)
         (λ e. ap (λ p. said-by (saying done p)) (has-answer (h .width) k 0 0 t (narrow h k e) (proper H) ∙ ap (λ xs. if lookup k xs then such k else no-such) (lists H)) ∙ said-done (lookup k S) k)
 
-    pub keeps-next : KeepsDictionary (Next k) h table buffer S
+    pub keeps-next : KeepsDictionary after (Next k) h table buffer S
     unfolding after expected kept-after changed nextReply too-wide
     keeps-next =
         read (leb (2 ^ h .width) k) Word (next-read (h .width) k t) (word (successor k S)) (next-unbroken (h .width) t (undamaged H) k)
         (λ e. said-word (next-read (h .width) k t .answer) ∙ ap word (next-answer (h .width) k 0 0 t (narrow h k e) (proper H) ∙ ap (successor k) (lists H)))
 
-    pub keeps-prev : KeepsDictionary (Prev k) h table buffer S
+    pub keeps-prev : KeepsDictionary after (Prev k) h table buffer S
     unfolding after expected kept-after changed prevReply too-wide
     keeps-prev =
         read (leb (2 ^ h .width) k) Word (prev-read (h .width) k t) (word (predecessor k S)) (prev-unbroken (h .width) t (undamaged H) k)
@@ -162,29 +162,29 @@ module _ (h : Header) (table buffer S : List ℕ) (H : Holding h table S) where
     abbrev distance : List ℕ → Perhaps ℕ
     distance xs = if lookup k xs then such 0 else nearest k (predecessor k xs) (successor k xs)
 
-    pub keeps-gap : KeepsDictionary (Gap k) h table buffer S
+    pub keeps-gap : KeepsDictionary after (Gap k) h table buffer S
     unfolding after expected kept-after changed gapReply too-wide
     keeps-gap =
         read (leb (2 ^ h .width) k) Distance (gap-read (h .width) k t) (word (distance S)) (gap-unbroken (h .width) t (undamaged H) k)
         (λ e. said-distance (gap-read (h .width) k t .answer) ∙ ap word (gap-answer (h .width) k 0 0 t (narrow h k e) (proper H) ∙ ap distance (lists H)))
 
-  pub keeps-first : KeepsDictionary First h table buffer S
+  pub keeps-first : KeepsDictionary after First h table buffer S
   unfolding after expected kept-after changed firstReply
   keeps-first =
       read false Word (first-read (h .width) t) (word (min S)) (first-unbroken (h .width) t (undamaged H))
       (λ e. said-word (first-read (h .width) t .answer) ∙ ap word (first-answer (h .width) t ∙ ap min (lists H)))
 
-  pub keeps-last : KeepsDictionary Last h table buffer S
+  pub keeps-last : KeepsDictionary after Last h table buffer S
   unfolding after expected kept-after changed lastReply
   keeps-last =
       read false Word (last-read (h .width) t) (word (max S)) (last-unbroken (h .width) t (undamaged H))
       (λ e. said-word (last-read (h .width) t .answer) ∙ ap word (last-answer (h .width) 0 0 t (proper H) ∙ ap max (lists H)))
 
-  pub keeps-audit : KeepsDictionary Audit h table buffer S
+  pub keeps-audit : KeepsDictionary after Audit h table buffer S
   unfolding after expected kept-after changed auditReply numberOf keyOf
   keeps-audit = rw (H .right-header, test-of-set (H .holds)) (nothing-changed (answered h Done (h .count)) (only 0) refl refl)
 
-  pub keeps-list : KeepsDictionary Call.List h table buffer S
+  pub keeps-list : KeepsDictionary after Call.List h table buffer S
   unfolding after expected kept-after changed listReply listBuffer numberOf keyOf
   keeps-list = rw (H .right-header, test-of-set (H .holds), lists H, H .holds .number) (either (ltb (length buffer) (h .count)))
     where
@@ -194,7 +194,7 @@ module _ (h : Header) (table buffer S : List ℕ) (H : Holding h table S) where
       either false = record { answer = refl; width = refl; held = H; written = refl; same-length = refl }
 
   -- "it clears every row and hands back its W with a count of 0"
-  pub keeps-new : (w : ℕ) → KeepsDictionary (New w) h table buffer S
+  pub keeps-new : (w : ℕ) → KeepsDictionary after (New w) h table buffer S
   unfolding after expected kept-after changed newReply newTable numberOf keyOf
   keeps-new w = either (wrong-width w) refl
     where

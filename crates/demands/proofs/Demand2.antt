@@ -1,6 +1,6 @@
 -- Demand 2, from the proofs of its calls; and its corollary for sequences of calls.
 use Prim.Native.Nat.{ℕ, _≤_}
-use mathlib.Core.Path.{_≡_, refl, ap, ap₂, _∙_}
+use mathlib.Core.Path.{_≡_, refl, ap, subst, _∙_}
 use mathlib.Core.Bool.{Bool, true, false}
 use mathlib.Core.List.{List, [], _∷_, _++_}
 use native.Mathlib.Omega.{arith}
@@ -10,19 +10,20 @@ use borrow.Author.Tests.{le-ltb}
 use Rattle.ordered.specs.Such.{if_then_else_}
 use Rattle.pretree.specs.declared.Header.{Header}
 use Rattle.pretree.specs.Table.{capacity}
-use Rattle.pretree.specs.Reply.{fresh, wrong-header}
+use Rattle.pretree.specs.Reply.{wrong-width, wrong-header}
 use Rattle.pretree.proofs.Writing.{same-capacity}
 use Rattle.pretree.specs.declared.Call.{Call}
 use Rattle.pretree.specs.declared.Call.the-variants.{New, Add, Del, Has, Next, Prev, Gap, First, Last, Audit}
 use Rattle.pretree.specs.Call.{After, after}
-use Rattle.demands.specs.Expected.{Kept, expected, changed, kept-after}
-use Rattle.demands.specs.Demand2.{Holding, KeepsDictionary, keptBy, Demand2, LaterZeros, ZerosKept, answers, told, Sequences, SequencesFromEmpty, EverySetHeld}
+use Rattle.demands.specs.Program.{Asked, State, outcome, state-after, end-state}
+use Rattle.demands.specs.Expected.{Kept, expected, changed, kept-after, kept-after-call, kept-at-end}
+use Rattle.demands.specs.Demand2.{Holding, Keeps, KeepsDictionary, keptBy, Demand2, LaterZeros, ZerosKept, HoldsKept, empty-state, empty-kept, Throughout, AnswersAs, Sequences, SequencesFromEmpty, EverySetHeld}
 use Rattle.demands.proofs.Written.{every-set-has-rows}
 use Rattle.demands.proofs.Answered.{empty-held, new-zeros, zeros-new, keeps-has, keeps-next, keeps-prev, keeps-gap, keeps-first, keeps-last, keeps-audit, keeps-list, keeps-new}
 use Rattle.demands.proofs.Added.{keeps-add, zeros-add}
 use Rattle.demands.proofs.Removed.{keeps-del, zeros-del}
 
-pub demand2 : Demand2
+pub demand2 : Demand2 after
 demand2 (New w) h table buffer S H = keeps-new h table buffer S H w
 demand2 (Add k) h table buffer S H = keeps-add h table S H k buffer
 demand2 (Del k) h table buffer S H = keeps-del h table S H k buffer
@@ -39,7 +40,7 @@ demand2 Call.List h table buffer S H = keeps-list h table buffer S H
 module _ (h : Header) (table buffer S : List ℕ) (H : Holding h table S) (zeros : LaterZeros h table) where
   same-zeros : (c : Call) → kept-after c (capacity table) (keptBy h S buffer) .set ≡ S → LaterZeros (after c h table buffer .reply .header) table
   same-zeros c same i past room =
-      let k : KeepsDictionary c h table buffer S = demand2 c h table buffer S H in
+      let k : KeepsDictionary after c h table buffer S = demand2 c h table buffer S H in
       zeros i (omega (arith, k .held .holds .number, ap length same, H .holds .number)) room
 
   set-kept : (b : Bool) (s : Kept) → s .set ≡ S → (if b then s else keptBy h S buffer) .set ≡ S
@@ -66,20 +67,56 @@ module _ (h : Header) (table buffer S : List ℕ) (H : Holding h table S) (zeros
 pub zeros-kept : ZerosKept
 zeros-kept = record { after-new = new-zeros; kept-so = λ c h table buffer S H zeros. keeps-zeros h table buffer S H zeros c }
 
-pub sequences : Sequences
-unfolding answers told
-sequences [] h table buffer S H = refl
-sequences (c ∷ cs) h table buffer S H =
-    let k : KeepsDictionary c h table buffer S = demand2 c h table buffer S H in
-    let a : After = after c h table buffer in
-    let kept : Kept = kept-after c (capacity table) (keptBy h S buffer) in
-    ap₂ _∷_ (k .answer)
-    (sequences cs (a .reply .header) (a .table) (a .buffer) (kept .set) (k .held)
-    ∙ ap₂ (told cs) (same-capacity (a .table) table (k .same-length))
-    (ap₂ (λ w b. record { width = w; set = kept .set; buffer = b }) (k .width) (k .written)))
+-- the same of a call with a buffer of its own, where the table has room for `room` words
+module _ (room : ℕ) (a : Asked) (s : State) (k : Kept) (same-room : capacity (s .table) ≡ room) (H : HoldsKept s k) where
+  pub answers-as : AnswersAs after room a s k
+  answers-as =
+      let kept : ℕ → Kept = λ W. record { width = W; set = k .set; buffer = a .buffer } in
+      let P : ℕ → ℕ → Type 0 = λ r W. Keeps (expected (a .call) r (kept W)) (kept-after (a .call) r (kept W)) (s .table) (outcome after a s) in
+      subst (λ r. P r (k .width)) same-room
+      (subst (P (capacity (s .table))) (H .width) (demand2 (a .call) (s .header) (s .table) (a .buffer) (k .set) (H .held)))
 
-pub sequences-from-empty : SequencesFromEmpty
-sequences-from-empty cs W table buffer right = sequences cs (fresh W) table buffer [] (empty-held W table right)
+  kept-so : HoldsKept (state-after after a s) (kept-after-call a room k)
+  kept-so = record { width = answers-as .width; held = answers-as .held }
+
+  room-stays : capacity (state-after after a s .table) ≡ room
+  room-stays = same-capacity (state-after after a s .table) (s .table) (answers-as .same-length) ∙ same-room
+
+-- what holds of a call in each state that holds what the dictionary keeps holds of each call of a list
+module _ (room : ℕ) where
+  abbrev Here : State → Kept → Type 0
+  Here s k = (capacity (s .table) ≡ room) × HoldsKept s k
+
+  pub throughout : (P : Asked → State → Kept → Type 0) → ((a : Asked) (s : State) (k : Kept) → Here s k → P a s k) → (cs : List Asked) (s : State) (k : Kept) → Here s k → Throughout after P cs room s k
+  unfolding Throughout
+  throughout P each [] s k here = tt
+  throughout P each (a ∷ cs) s k here = (
+    each a s k here,
+    throughout P each cs (state-after after a s) (kept-after-call a room k) (room-stays room a s k (here .0) (here .1), kept-so room a s k (here .0) (here .1)),
+  )
+
+  holds-at-end : (cs : List Asked) (s : State) (k : Kept) → Here s k → HoldsKept (end-state after cs s) (kept-at-end cs room k) × (length (end-state after cs s .table) ≡ length (s .table))
+  unfolding end-state kept-at-end
+  holds-at-end [] s k here = (here .1, refl)
+  holds-at-end (a ∷ cs) s k here =
+      let e = holds-at-end cs (state-after after a s) (kept-after-call a room k) (room-stays room a s k (here .0) (here .1), kept-so room a s k (here .0) (here .1)) in
+      (e .0, e .1 ∙ answers-as room a s k (here .0) (here .1) .same-length)
+
+pub sequences : Sequences after
+sequences cs s k H =
+    let room : ℕ = capacity (s .table) in
+    let e = holds-at-end room cs s k (refl, H) in
+    record {
+      answers = throughout room (AnswersAs after room) (λ a s k here. answers-as room a s k (here .0) (here .1)) cs s k (refl, H);
+      at-end = e .0;
+      same-length = e .1;
+    }
+
+pub empty-holds : (W : ℕ) (table : List ℕ) → wrong-width W ≡ false → HoldsKept (empty-state W table) (empty-kept W)
+empty-holds W table right = record { width = refl; held = empty-held W table right }
+
+pub sequences-from-empty : SequencesFromEmpty after
+sequences-from-empty cs W table right = sequences cs (empty-state W table) (empty-kept W) (empty-holds W table right)
 
 pub every-set-held : EverySetHeld
 unfolding wrong-header capacity

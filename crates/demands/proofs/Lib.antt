@@ -10,7 +10,6 @@ pub mod Refusals
 pub mod Written
 pub mod SecondWay
 pub mod RowsRead
-pub mod Reached
 pub mod Answered
 pub mod Spelled
 pub mod Writes
@@ -20,3 +19,5 @@ pub mod Erasures
 pub mod Removed
 pub mod Demand2
 pub mod History
+pub mod Making
+pub mod Reached

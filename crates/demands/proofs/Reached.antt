@@ -1,34 +1,38 @@
 -- The bounds of demand 3 are reached at every width: the proofs of specs/Reached.antt, by the trees of its two sets.
 use Prim.Native.Nat.{ℕ, zero, suc, min, _+_, _*_, _-_, _/_, _^_, _≤_, _<_}
-use mathlib.Core.Path.{_≡_, refl, sym, ap, _∙_}
-use mathlib.Core.Bool.{Bool, true, false}
+use mathlib.Core.Path.{_≡_, refl, sym, ap, subst, _∙_}
+use mathlib.Core.Bool.{Bool, true, false, or-true}
 use mathlib.Core.List.{List, [], _++_, append-nil}
-use native.Mathlib.Nat.{add-mul, mul-assoc, one-mul, zero-mul, pow-succ'}
+use native.Mathlib.Nat.{zero-add, add-mul, mul-assoc, one-mul, zero-mul, pow-succ'}
 use native.Mathlib.Omega.{arith}
-use lib.Dec.{ltb, leb}
+use lib.Dec.{ltb, leb, eqb}
 use lib.Pow.{pow-pos, pow-mono, pow-lt, shl-shr, high, ones-lt}
-use lib.ListN.{length, length-append}
-use borrow.Author.Tests.{lt-ltb, le-ltb, le-leb, lt-leb, ne-eqb}
-use Rattle.ordered.specs.Such.{Perhaps, no-such, such, only-if, last-such}
+use lib.ListN.{length, replicate, length-append, length-replicate}
+use borrow.Author.Tests.{lt-ltb, le-ltb, le-leb, lt-leb, eq-eqb, ne-eqb}
+use Rattle.ordered.specs.Such.{if_then_else_, Perhaps, no-such, such, only-if, last-such}
+use Rattle.ordered.specs.Dictionary.{lookup}
 use Rattle.ordered.specs.Word.{Side, left, right, side}
 use Rattle.ordered.specs.Tree.{Tree, none, row, exists, listing, unnumbered, treeOf}
 use Rattle.ordered.specs.Proper.{Proper}
 use Rattle.ordered.specs.Way.{Way, Step, Rule, to, ending, passing, way, rows, joined, following, passing-equal, pushing, down, staying}
-use Rattle.ordered.specs.Reading.{rowsOf, keyAt, right-left-aside, next-by, has as has-over, next as next-over, prev as prev-over, last as last-over}
+use Rattle.ordered.specs.Reading.{rowsOf, keyAt, right-left-aside, next-by, has as has-over, next as next-over, prev as prev-over, first as first-over, last as last-over}
 use Rattle.ordered.specs.Change.{ends-at, adding-by, adding, erasing-by, erasing}
 use Rattle.ordered.proofs.Bits.{on-root-path, whole-path, side-of-part}
 use Rattle.ordered.proofs.Parts.{each-of-all}
 use Rattle.ordered.proofs.OneTree.{keys-fit, keys-rise, one-tree}
 use Rattle.pretree.specs.declared.Header.{Header}
 use Rattle.pretree.specs.Table.{capacity}
-use Rattle.pretree.specs.Reply.{wrong-header}
+use Rattle.pretree.specs.Reply.{fresh, wrong-width}
+use Rattle.pretree.specs.Call.{after}
 use Rattle.pretree.specs.declared.Call.{Call}
-use Rattle.pretree.specs.declared.Call.the-variants.{Del, Has, Next, Prev, Last}
-use Rattle.demands.specs.RowsRead.{rowsOver, refusedOver}
-use Rattle.demands.specs.Reached.{chain, parted-chain, SetOf, Reached, ReachedBeyond, ReadIn, ReachedIn}
+use Rattle.pretree.specs.declared.Call.the-variants.{Add, Del, Has, Next, Prev, First, Last}
+use Rattle.demands.specs.Program.{State, outcome, end-state}
+use Rattle.demands.specs.Demand2.{HoldsKept}
+use Rattle.demands.specs.RowsRead.{rowsOver, refusedOver, mostRows}
+use Rattle.demands.specs.Reached.{chain, parted-chain, SetOf, Reached, ReachedBeyond, making, ReadOnce, ReachedByCalls, Bounds, LeastBounds}
 use Rattle.demands.proofs.Unfolding.{none-proper}
-use Rattle.demands.proofs.Written.{every-set-has-rows}
-use Rattle.demands.proofs.RowsRead.{rows-exact}
+use Rattle.demands.proofs.RowsRead.{rows-exact, rows-bounded}
+use Rattle.demands.proofs.Making.{words, made}
 
 -- the tree of a chain
 ladder : ℕ → ℕ → Tree
@@ -164,8 +168,13 @@ module _ {m k : ℕ} {w : Way} (r : Rightmost m k w) where
   del-ends true = joined-at-end (down left) r
   del-ends false = rightmost-rows r
 
+root-alone : (m p : ℕ) → rows (way staying m (ladder m p)) ≡ 1
+unfolding ladder way staying rows
+root-alone zero p = refl
+root-alone (suc m) p = refl
+
 pub reached : (W : ℕ) → Reached W
-unfolding rowsOver rowsOf has-over last-over adding erasing
+unfolding rowsOver rowsOf has-over first-over last-over adding erasing
 reached W =
     let k : ℕ = 2 ^ W - 1 in
     let w : Way = way (following k) W (ladder W 0) in
@@ -175,6 +184,7 @@ reached W =
       has-reads = rw (chain-tree W) (omega (arith, rightmost-rows r));
       add-reads = rw (chain-tree W) (add-ends r (ends-at k w));
       del-reads = rw (chain-tree W) (del-ends r (ends-at k w));
+      first-reads = rw (chain-tree W) (omega (arith, root-alone W 0));
       last-reads = rw (chain-tree W) (omega (arith, rightmost-rows (down-chain W (down right) (down-right k))));
     }
 
@@ -322,39 +332,43 @@ parted-length : (W : ℕ) → 3 ≤ W → length (parted-chain W) ≡ W + 2
 unfolding parted-chain
 parted-length W three = rw length-append (omega (arith, chain-length (W - 2) 1))
 
--- the rows of a set are a table with a right header, in which a call that is not refused reads the rows of its ways
-module _ (W : ℕ) (some : 1 ≤ W) (fits : W ≤ 32) (S : List ℕ) (few : length S ≤ 65535) (set : SetOf W S) where
-  right-header : (table : List ℕ) → length table ≡ 3 * length S → wrong-header (record { width = W; count = length S }) table ≡ false
-  unfolding wrong-header capacity
-  right-header table as-many =
-      rw (
-        ne-eqb W 0 (λ e. omega arith),
-        le-ltb 32 W fits,
-        le-ltb (min (length table / 3) 65535) (length S) (omega arith),
-      )
+top-there : (m p : ℕ) → lookup (top m p) (chain m p) ≡ true
+unfolding chain lookup
+top-there zero p = rw (eq-eqb (top 0 p) p (omega arith))
+top-there (suc m) p = rw (← top-step m p, top-there m (p * 2 + 1)) (or-true (eqb (top m (p * 2 + 1)) (p * 2 ^ suc m)))
 
-  read-in : (c : Call) → ((room space : ℕ) → refusedOver c W S room space ≡ false) → ReadIn W c (rowsOver c W S)
-  read-in c accepted =
-      let h : Header = record { width = W; count = length S } in
-      let r = every-set-has-rows W S [] (set .increasing) (set .below) in
-      let table : List ℕ = r .rows ++ [] in
-      let right : wrong-header h table ≡ false = right-header table (rw append-nil (r .as-many)) in
+pub right-width : (W : ℕ) → 1 ≤ W → W ≤ 32 → wrong-width W ≡ false
+right-width W some fits = rw (ne-eqb W 0 (λ e. omega arith), le-ltb 32 W fits)
+
+-- the calls that make a set lead to a table that holds it, and there a call that is not refused reads the rows of its ways
+module _ (W : ℕ) (some : 1 ≤ W) (fits : W ≤ 32) (S : List ℕ) (set : SetOf W S) where
+  read-once : (c : Call) → ((room space : ℕ) → refusedOver c W S room space ≡ false) → ReadOnce after W S c (rowsOver c W S)
+  read-once c accepted s room =
+      let end : State = end-state after (making W S) s in
+      let made-here : HoldsKept end (words W S) = made W S s (right-width W some fits) set room in
+      let P : ℕ → Type 0 = λ width. (buffer : List ℕ) → outcome after (record { call = c; buffer = buffer }) end .reply .rows
+      ≡ (if refusedOver c width S (capacity (end .table)) (length buffer) then 0 else rowsOver c width S) in
+      let exact : P (end .header .width) =
+      λ buffer. rows-exact c (end .header) (end .table) buffer S (made-here .held .right-header) (made-here .held .holds) .rows-read in
+      let exact-here : P W = subst P (made-here .width) exact in
       record {
-        count = length S;
-        table = table;
-        right = right;
-        reads = λ buffer. rows-exact c h table buffer S right (r .held) .rows-read ∙ rw (accepted (capacity table) (length buffer));
+        width = made-here .width;
+        held = made-here .held;
+        reads = λ buffer. exact-here buffer ∙ rw (accepted (capacity (end .table)) (length buffer));
       }
 
-pub reached-in : (W : ℕ) → 1 ≤ W → W ≤ 32 → ReachedIn W
+pub reached-by-calls : (W : ℕ) → 1 ≤ W → W ≤ 32 → ReachedByCalls after W
 unfolding refusedOver
-reached-in W some fits =
-    let on-chain = read-in W some fits (chain W 0) (omega (arith, chain-length W 0)) (reached W .a-set) in
+reached-by-calls W some fits =
+    let on-chain = read-once W some fits (chain W 0) (reached W .a-set) in
     let small : leb (2 ^ W) (2 ^ W - 1) ≡ false = lt-leb (2 ^ W) (2 ^ W - 1) (ones-lt W) in
     let half : 2 ^ (W - 1) < 2 ^ W = pow-lt (omega arith) in
+    let there : lookup (2 ^ W - 1) (chain W 0) ≡ true = rw (zero-mul, zero-add) at (top-there W 0) in
     record {
       has-reads = rw (reached W .has-reads) at (on-chain (Has (2 ^ W - 1)) (λ room space. small));
+      add-reads = rw (reached W .add-reads) at (on-chain (Add (2 ^ W - 1)) (λ room space. rw (small, there)));
       del-reads = rw (reached W .del-reads) at (on-chain (Del (2 ^ W - 1)) (λ room space. small));
+      first-reads = rw (reached W .first-reads) at (on-chain First (λ room space. refl));
       last-reads = rw (reached W .last-reads) at (on-chain Last (λ room space. refl));
       next-reads =
           λ three.
@@ -366,5 +380,44 @@ reached-in W some fits =
     }
   where
     on-parted : 3 ≤ W → (c : Call) → ((room space : ℕ) → refusedOver c W (parted-chain W) room space ≡ false)
-        → ReadIn W c (rowsOver c W (parted-chain W))
-    on-parted three = read-in W some fits (parted-chain W) (omega (arith, parted-length W three)) (reached-beyond W three .a-set)
+        → ReadOnce after W (parted-chain W) c (rowsOver c W (parted-chain W))
+    on-parted three = read-once W some fits (parted-chain W) (reached-beyond W three .a-set)
+
+-- a table with room for n words
+roomy : ℕ → State
+roomy n = record { header = fresh 1; table = replicate (3 * n) 0 }
+
+roomy-capacity : (n : ℕ) → n ≤ 65535 → capacity (roomy n .table) ≡ n
+unfolding roomy capacity
+roomy-capacity n few = rw length-replicate (omega arith)
+
+-- a number of rows that is read in a table that holds a set is no more than any bound
+module _ {W m : ℕ} {S : List ℕ} (call : ℕ → Call) (k : ℕ) (few : length S ≤ 65535) (read : ReadOnce after W S (call k) m) where
+  no-less : (n : ℕ) → Bounds after call W n → m ≤ n
+  no-less n bounds =
+      let r = read (roomy (length S)) (omega (arith, roomy-capacity (length S) few)) in
+      let end : State = end-state after (making W S) (roomy (length S)) in
+      omega (arith, r .reads [], bounds k (end .header) (end .table) [] S (r .held) (r .width))
+
+pub least-bounds : (W : ℕ) → 1 ≤ W → W ≤ 32 → LeastBounds after W
+unfolding mostRows
+least-bounds W some fits =
+    let r = reached-by-calls W some fits in
+    let few : length (chain W 0) ≤ 65535 = omega (arith, chain-length W 0) in
+    let top-word : ℕ = 2 ^ W - 1 in
+    record {
+      has-bound = record { bounds = bounded Has (λ k h e. omega arith); no-lower = no-less Has top-word few (r .has-reads) };
+      add-bound = record { bounds = bounded Add (λ k h e. omega arith); no-lower = no-less Add top-word few (r .add-reads) };
+      del-bound = record { bounds = bounded Del (λ k h e. omega arith); no-lower = no-less Del top-word few (r .del-reads) };
+      first-bound = record { bounds = bounded (λ k. First) (λ k h e. omega arith); no-lower = no-less (λ k. First) 0 few (r .first-reads) };
+      last-bound = record { bounds = bounded (λ k. Last) (λ k h e. omega arith); no-lower = no-less (λ k. Last) 0 few (r .last-reads) };
+      next-bound = λ three. record { bounds = bounded Next (λ k h e. omega arith); no-lower = no-less Next (2 ^ (W - 1) - 1) (parted-few three) (r .next-reads three) };
+      prev-bound = λ three. record { bounds = bounded Prev (λ k h e. omega arith); no-lower = no-less Prev (2 ^ (W - 1)) (parted-few three) (r .prev-reads three) };
+    }
+  where
+    parted-few : 3 ≤ W → length (parted-chain W) ≤ 65535
+    parted-few three = omega (arith, parted-length W three)
+
+    -- on every table, by `rows-bounded`
+    bounded : (call : ℕ → Call) {m : ℕ} → ((k : ℕ) (h : Header) → h .width ≡ W → mostRows (call k) h ≤ m) → Bounds after call W m
+    bounded call most k h table buffer S held width = omega (arith, rows-bounded (call k) h table buffer .few-read, most k h width)

@@ -476,7 +476,7 @@ module _ (h : Header) (table S : List ℕ) (H : Holding h table S) (k : ℕ) whe
   after-so : (present : ends-at k w ≡ true) → shrunk last e second moves table ≡ final present (not (eqb hole last))
   after-so present = table-after present moves ∙ ap (λ i. final present (not (eqb i last))) (hole-same present)
 
-  pub keeps-del : (buffer : List ℕ) → KeepsDictionary (Del k) h table buffer S
+  pub keeps-del : (buffer : List ℕ) → KeepsDictionary after (Del k) h table buffer S
   unfolding after expected kept-after changed numberOf keyOf
   keeps-del buffer = rw outcome-so (by-width (leb (2 ^ h .width) k) refl (e .present) (λ small. present-so small) bad (λ small there. never-bad (sym present-is ∙ present-so small ∙ there)))
     where

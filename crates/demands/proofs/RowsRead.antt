@@ -190,7 +190,7 @@ new-reports h w = by-width (wrong-width w)
     by-width true = record { number = refl; rows-read = refl; moving-count = refl }
     by-width false = record { number = refl; rows-read = refl; moving-count = refl }
 
-pub rows-exact : RowsExact
+pub rows-exact : RowsExact after
 unfolding after refusedOver rowsOver movedOver too-wide numberOf hasReply nextReply prevReply gapReply firstReply lastReply
 rows-exact (New w) h table buffer S right s = new-reports h w
 rows-exact (Add k) h table buffer S right s = add-reports h table S right s k
@@ -216,10 +216,10 @@ rows-exact Last h table buffer S right s =
 rows-exact Audit h table buffer S right s = audit-reports h table S right s
 rows-exact Call.List h table buffer S right s = list-reports h table S right s buffer
 
-pub rows-alike : RowsAlike
+pub rows-alike : RowsAlike after
 unfolding capacity
-rows-alike c h h′ table table′ buffer S right right′ s s′ width length =
-    rows-exact c h table buffer S right s .rows-read ∙ (rw (width, length)) ∙ sym (rows-exact c h′ table′ buffer S right′ s′ .rows-read)
+rows-alike c h h′ table table′ buffer buffer′ S right right′ s s′ width length space =
+    rows-exact c h table buffer S right s .rows-read ∙ (rw (width, length, space)) ∙ sym (rows-exact c h′ table′ buffer′ S right′ s′ .rows-read)
 
 -- what holds of both is so of the one that a test picks
 either-way : {A : Type 0} (P : A → Type 0) (b : Bool) {x y : A} → P x → P y → P (if b then x else y)
@@ -240,7 +240,7 @@ read-few {n} h table wide word r few =
     (either-way (AtMost n 0) wide (none-few h WordTooWide)
     (either-way (AtMost n 0) (brokenIn (r .ways)) (none-few h Damage) (answer-few h (saying word (r .answer)) few)))
 
-pub rows-bounded : RowsBounded
+pub rows-bounded : RowsBounded after
 unfolding after mostRows mostMoved newReply hasReply nextReply prevReply gapReply firstReply lastReply addOutcome delOutcome auditReply listReply secondWay
 rows-bounded (New w) h table buffer =
     either-way (AtMost 0 0) (wrong-width w) (none-few h WrongWidth) (none-few (fresh w) Done)

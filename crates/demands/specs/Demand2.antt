@@ -1,5 +1,5 @@
 -- Demand 2: on a sound table of the set S every call answers as the ordered dictionary does on S, and leaves a sound table of the
--- dictionary's next set, of its width and its number of words.
+-- dictionary's next set, of its width and its number of words; and so after any sequence of calls.
 -- Document 01: "all shut out by demand 2, which compares reply and set after every call".
 use Prim.Native.Nat.{ℕ, _*_, _^_, _<_, _≤_}
 use mathlib.Core.Path.{_≡_}
@@ -10,14 +10,15 @@ use Rattle.ordered.specs.Dictionary.{Increasing}
 use Rattle.ordered.specs.Said.{_∈_}
 use Rattle.pretree.specs.declared.Header.{Header}
 use Rattle.pretree.specs.declared.Reply.{Reply}
+use Rattle.pretree.specs.declared.Call.{Call}
 use Rattle.pretree.specs.Answer.{numberOf, keyOf}
 use Rattle.pretree.specs.Table.{capacity, rowAt, cleared}
 use Rattle.pretree.specs.Reply.{fresh, wrong-width, wrong-header}
 use Rattle.pretree.specs.Whole.{newReply, newTable}
-use Rattle.pretree.specs.declared.Call.{Call}
 use Rattle.pretree.specs.Call.{After, after}
+use Rattle.demands.specs.Program.{Program, Asked, State, outcome, state-after, end-state}
 use Rattle.demands.specs.SoundIs.{HoldsSet}
-use Rattle.demands.specs.Expected.{Said, Kept, expected, kept-after}
+use Rattle.demands.specs.Expected.{Said, Kept, lending, expected, kept-after, kept-after-call, kept-at-end}
 
 -- a header that is not refused (answer 2), and a table that holds the set S; its count is the number of the words of S
 pub record Holding (h : Header) (table S : List ℕ) : Type 0 where
@@ -40,46 +41,50 @@ pub record Keeps (said : Said) (kept : Kept) (table : List ℕ) (left : After) :
 abbrev pub keptBy : Header → List ℕ → List ℕ → Kept
 keptBy h S buffer = record { width = h .width; set = S; buffer = buffer }
 
-abbrev pub KeepsDictionary : Call → Header → List ℕ → List ℕ → List ℕ → Type 0
-KeepsDictionary c h table buffer S =
-    Keeps (expected c (capacity table) (keptBy h S buffer)) (kept-after c (capacity table) (keptBy h S buffer)) table (after c h table buffer)
+-- a state holds what the dictionary keeps
+pub record HoldsKept (s : State) (k : Kept) : Type 0 where
+  pub width : s .header .width ≡ k .width
+  pub held : Holding (s .header) (s .table) (k .set)
 
--- the demand: for every call, header, table and buffer, and every set that the table holds
-abbrev pub Demand2 : Type 0
-Demand2 = (c : Call) (h : Header) (table buffer S : List ℕ) → Holding h table S → KeepsDictionary c h table buffer S
+-- an empty set of a width from 1 to 32, in any table: a state, and what the dictionary keeps of it
+abbrev pub empty-state : ℕ → List ℕ → State
+empty-state W table = record { header = fresh W; table = table }
 
--- "Rows in use are 0 to count−1. All later rows up to capacity hold three zeros after `new`, and our calls keep it so."
-abbrev pub LaterZeros : Header → List ℕ → Type 0
-LaterZeros h table = (i : ℕ) → h .count ≤ i → i < capacity table → rowAt table i ≡ cleared
+abbrev pub empty-kept : ℕ → Kept
+empty-kept W = keptBy (fresh W) [] []
 
-pub record ZerosKept : Type 0 where
-  pub after-new : (w : ℕ) (h : Header) (table : List ℕ) → wrong-width w ≡ false → LaterZeros (newReply h w .header) (newTable table w)
-  pub kept-so :
-      (c : Call) (h : Header) (table buffer S : List ℕ) → Holding h table S → LaterZeros h table
-      → LaterZeros (after c h table buffer .reply .header) (after c h table buffer .table)
+module _ (program : Program) where
+  abbrev pub KeepsDictionary : Call → Header → List ℕ → List ℕ → List ℕ → Type 0
+  KeepsDictionary c h table buffer S =
+      Keeps (expected c (capacity table) (keptBy h S buffer)) (kept-after c (capacity table) (keptBy h S buffer)) table (program c h table buffer)
 
--- The corollary for sequences: "for every sequence of calls", each on the header, table and buffer that the one before left
-unfoldable pub answers : List Call → Header → List ℕ → List ℕ → List Said
-answers [] h table buffer = []
-answers (c ∷ cs) h table buffer =
-    let a : After = after c h table buffer in
-    saidIn (a .reply) ∷ answers cs (a .reply .header) (a .table) (a .buffer)
+  -- the demand: for every call, header, table and buffer, and every set that the table holds
+  abbrev pub Demand2 : Type 0
+  Demand2 = (c : Call) (h : Header) (table buffer S : List ℕ) → Holding h table S → KeepsDictionary c h table buffer S
 
--- the dictionary's answers to the same calls, each on what it keeps after the one before
-unfoldable pub told : List Call → ℕ → Kept → List Said
-told [] capacity s = []
-told (c ∷ cs) capacity s = expected c capacity s ∷ told cs capacity (kept-after c capacity s)
+  -- Each call of a list meets P, which sees the call, the state before it and what the dictionary keeps before it.
+  unfoldable pub Throughout : (Asked → State → Kept → Type 0) → List Asked → ℕ → State → Kept → Type 0
+  Throughout P [] room s k = Unit {0}
+  Throughout P (a ∷ cs) room s k = P a s k × Throughout P cs room (state-after program a s) (kept-after-call a room k)
 
-abbrev pub Sequences : Type 0
-Sequences =
-    (cs : List Call) (h : Header) (table buffer S : List ℕ) → Holding h table S
-    → answers cs h table buffer ≡ told cs (capacity table) (keptBy h S buffer)
+  -- a call is answered as the dictionary does, and leaves what the dictionary keeps
+  abbrev pub AnswersAs : ℕ → Asked → State → Kept → Type 0
+  AnswersAs room a s k =
+      let lent : Kept = lending (a .buffer) k in
+      Keeps (expected (a .call) room lent) (kept-after (a .call) room lent) (s .table) (outcome program a s)
 
--- from an empty set, whatever words stand in the table
-abbrev pub SequencesFromEmpty : Type 0
-SequencesFromEmpty =
-    (cs : List Call) (W : ℕ) (table buffer : List ℕ) → wrong-width W ≡ false
-    → answers cs (fresh W) table buffer ≡ told cs (capacity table) (keptBy (fresh W) [] buffer)
+  -- what holds of a sequence of calls: every answer is the dictionary's, and at its end the table holds the dictionary's words
+  pub record Sequence (cs : List Asked) (s : State) (k : Kept) : Type 0 where
+    pub answers : Throughout (AnswersAs (capacity (s .table))) cs (capacity (s .table)) s k
+    pub at-end : HoldsKept (end-state program cs s) (kept-at-end cs (capacity (s .table)) k)
+    pub same-length : length (end-state program cs s .table) ≡ length (s .table)
+
+  abbrev pub Sequences : Type 0
+  Sequences = (cs : List Asked) (s : State) (k : Kept) → HoldsKept s k → Sequence cs s k
+
+  -- "Start with an empty set in one table", whatever words stand in it
+  abbrev pub SequencesFromEmpty : Type 0
+  SequencesFromEmpty = (cs : List Asked) (W : ℕ) (table : List ℕ) → wrong-width W ≡ false → Sequence cs (empty-state W table) (empty-kept W)
 
 -- The demand speaks of something: every set of words of a width from 1 to 32, as far as a table can have rows, is held by rows of its own,
 -- whatever words follow them
@@ -91,3 +96,13 @@ pub record HeldIn (W : ℕ) (S rest : List ℕ) : Type 0 where
 abbrev pub EverySetHeld : Type 0
 EverySetHeld =
     (W : ℕ) (S rest : List ℕ) → wrong-width W ≡ false → Increasing S → ((x : ℕ) → x ∈ S → x < 2 ^ W) → length S ≤ 65535 → HeldIn W S rest
+
+-- "Rows in use are 0 to count−1. All later rows up to capacity hold three zeros after `new`, and our calls keep it so."
+abbrev pub LaterZeros : Header → List ℕ → Type 0
+LaterZeros h table = (i : ℕ) → h .count ≤ i → i < capacity table → rowAt table i ≡ cleared
+
+pub record ZerosKept : Type 0 where
+  pub after-new : (w : ℕ) (h : Header) (table : List ℕ) → wrong-width w ≡ false → LaterZeros (newReply h w .header) (newTable table w)
+  pub kept-so :
+      (c : Call) (h : Header) (table buffer S : List ℕ) → Holding h table S → LaterZeros h table
+      → LaterZeros (after c h table buffer .reply .header) (after c h table buffer .table)

@@ -2,7 +2,7 @@
 -- Document 01: "The meaning of the operations is the ordered dictionary of source document 004; `new` (an empty set), `gap`, `audit`, `list`
 -- and the answers 7 and 8 are set here, over the same set." On a sound table 2 and 4 are never given, so they are not named here.
 use Prim.Native.Nat.{ℕ, _^_}
-use mathlib.Core.List.{List, [], _++_}
+use mathlib.Core.List.{List, [], _∷_, _++_}
 use lib.Dec.{ltb, leb, eqb}
 use lib.ListN.{length, drop}
 use Rattle.ordered.specs.Such.{if_then_else_, Perhaps, no-such, such}
@@ -11,6 +11,7 @@ use Rattle.ordered.specs.Reading.{nearest}
 use Rattle.pretree.specs.Reply.{wrong-width}
 use Rattle.pretree.specs.declared.Call.{Call}
 use Rattle.pretree.specs.declared.Call.the-variants.{New, Add, Del, Has, Next, Prev, Gap, First, Last, Audit}
+use Rattle.demands.specs.Program.{Asked}
 
 pub record Said : Type 0 where
   pub number : ℕ
@@ -29,11 +30,15 @@ word no-such = only 8
 abbrev pub of-width : ℕ → ℕ → Said → Said
 of-width W k said = if leb (2 ^ W) k then only 3 else said
 
--- what the dictionary keeps from call to call: the set and the width of its words, and beside them the lent buffer
+-- what the dictionary keeps from call to call, the set and the width of its words; and beside them the buffer that is lent with a call
 pub record Kept : Type 0 where
   pub width : ℕ
   pub set : List ℕ
   pub buffer : List ℕ
+
+-- the same set, with another buffer lent
+abbrev pub lending : List ℕ → Kept → Kept
+lending buffer s = record { width = s .width; set = s .set; buffer = buffer }
 
 -- the answer, where the table has room for `capacity` words
 unfoldable pub expected : Call → ℕ → Kept → Said
@@ -70,3 +75,11 @@ changed Call.List s = record { width = s .width; set = s .set; buffer = s .set +
 -- "1 to 6 and 9 are refusals: [..] header, table and buffer untouched. 7 and 8 [..] change nothing."
 unfoldable pub kept-after : Call → ℕ → Kept → Kept
 kept-after c capacity s = if eqb (expected c capacity s .number) 0 then changed c s else s
+
+-- what the dictionary keeps after a call and after a list of calls, each with the buffer lent with it
+abbrev pub kept-after-call : Asked → ℕ → Kept → Kept
+kept-after-call a capacity s = kept-after (a .call) capacity (lending (a .buffer) s)
+
+unfoldable pub kept-at-end : List Asked → ℕ → Kept → Kept
+kept-at-end [] capacity s = s
+kept-at-end (a ∷ cs) capacity s = kept-at-end cs capacity (kept-after-call a capacity s)

@@ -1,40 +1,43 @@
--- Demand 3 over a history: "after any sequence of calls from an empty set, each call reports as rows read exactly those on the way" over the
--- PreTree of the words that the dictionary keeps at that moment. Document 01: "counts 0" with a refusal.
+-- Demand 3 over histories: "After any sequence of calls, each call reports as rows read exactly those on the way that document 01 defines
+-- over the PreTree of the present words, or none if refused."
 use Prim.Native.Nat.{ℕ}
 use mathlib.Core.Path.{_≡_}
 use mathlib.Core.Bool.{false}
-use mathlib.Core.List.{List, [], _∷_}
+use mathlib.Core.List.{List}
 use lib.ListN.{length}
-use Rattle.ordered.specs.Such.{if_then_else_}
-use Rattle.pretree.specs.declared.Header.{Header}
-use Rattle.pretree.specs.Table.{capacity}
-use Rattle.pretree.specs.Reply.{fresh, wrong-width}
 use Rattle.pretree.specs.declared.Call.{Call}
-use Rattle.pretree.specs.Call.{After, after}
-use Rattle.demands.specs.Expected.{Kept, kept-after}
-use Rattle.demands.specs.RowsRead.{rowsOver, refusedOver}
-use Rattle.demands.specs.Demand2.{Holding, keptBy}
+use Rattle.pretree.specs.Table.{capacity}
+use Rattle.pretree.specs.Reply.{wrong-width}
+use Rattle.demands.specs.Program.{Program, Asked, State, outcome, end-state}
+use Rattle.demands.specs.Expected.{Kept, kept-at-end}
+use Rattle.demands.specs.RowsRead.{rowsOver, movedOver, refusedOver, Reports}
+use Rattle.demands.specs.Demand2.{HoldsKept, empty-state, empty-kept, Throughout}
 
--- the rows that the calls report, each on the header, table and buffer that the one before left
-unfoldable pub reported : List Call → Header → List ℕ → List ℕ → List ℕ
-reported [] h table buffer = []
-reported (c ∷ cs) h table buffer =
-    let a : After = after c h table buffer in
-    a .reply .rows ∷ reported cs (a .reply .header) (a .table) (a .buffer)
+module _ (program : Program) where
+  -- a call reports the rows of its ways over the PreTree of the words that the dictionary keeps at that moment. The moving count is that of
+  -- the last row's way, and which row is the last one depends on the table.
+  abbrev pub ReportsAs : ℕ → Asked → State → Kept → Type 0
+  ReportsAs room a s k =
+      Reports (refusedOver (a .call) (k .width) (k .set) room (length (a .buffer))) (rowsOver (a .call) (k .width) (k .set))
+      (movedOver (a .call) (s .header) (s .table) (k .set)) (outcome program a s .reply)
 
--- the rows of the ways over the PreTrees of the sets that the dictionary keeps
-unfoldable pub onTheWays : List Call → ℕ → Kept → List ℕ
-onTheWays [] room s = []
-onTheWays (c ∷ cs) room s =
-    (if refusedOver c (s .width) (s .set) room (length (s .buffer)) then 0 else rowsOver c (s .width) (s .set))
-    ∷ onTheWays cs room (kept-after c room s)
+  abbrev pub ReportsThroughout : List Asked → State → Kept → Type 0
+  ReportsThroughout cs s k = Throughout program (ReportsAs (capacity (s .table))) cs (capacity (s .table)) s k
 
-abbrev pub History : Type 0
-History =
-    (cs : List Call) (h : Header) (table buffer S : List ℕ) → Holding h table S
-    → reported cs h table buffer ≡ onTheWays cs (capacity table) (keptBy h S buffer)
+  abbrev pub History : Type 0
+  History = (cs : List Asked) (s : State) (k : Kept) → HoldsKept s k → ReportsThroughout cs s k
 
-abbrev pub HistoryFromEmpty : Type 0
-HistoryFromEmpty =
-    (cs : List Call) (W : ℕ) (table buffer : List ℕ) → wrong-width W ≡ false
-    → reported cs (fresh W) table buffer ≡ onTheWays cs (capacity table) (keptBy (fresh W) [] buffer)
+  -- "Start with an empty set in one table"
+  abbrev pub HistoryFromEmpty : Type 0
+  HistoryFromEmpty = (cs : List Asked) (W : ℕ) (table : List ℕ) → wrong-width W ≡ false → ReportsThroughout cs (empty-state W table) (empty-kept W)
+
+  -- "So two histories that end with the same words and width in tables of equal length give the same counts, save the count for moving a row
+  -- at an erase.": a history is any list of calls on an empty set, with a `new` of other widths, refusals, `audit` and `list` among them.
+  abbrev pub TwoHistories : Type 0
+  TwoHistories =
+      (cs cs′ : List Asked) (W W′ : ℕ) (table table′ : List ℕ) → wrong-width W ≡ false → wrong-width W′ ≡ false → length table ≡ length table′
+      → kept-at-end cs (capacity table) (empty-kept W) .width ≡ kept-at-end cs′ (capacity table′) (empty-kept W′) .width
+      → kept-at-end cs (capacity table) (empty-kept W) .set ≡ kept-at-end cs′ (capacity table′) (empty-kept W′) .set
+      → (c : Call) (buffer buffer′ : List ℕ) → length buffer ≡ length buffer′
+      → outcome program (record { call = c; buffer = buffer }) (end-state program cs (empty-state W table)) .reply .rows
+      ≡ outcome program (record { call = c; buffer = buffer′ }) (end-state program cs′ (empty-state W′ table′)) .reply .rows

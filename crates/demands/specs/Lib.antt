@@ -5,11 +5,12 @@
 --    next set. A table is sound if and only if it is the PreTree of some set, and a set has one tree.
 -- 3. For every sequence of calls from an empty set in one table: the rows reported are those of the way over the PreTree of the present
 --    words, with the bounds W+1, W+2 and 2W+4; rows past the count are zeros.
+pub mod Program
 pub mod Numbers
 pub mod Refusals
 pub mod SoundIs
 pub mod RowsRead
-pub mod Reached
 pub mod Expected
 pub mod Demand2
 pub mod History
+pub mod Reached

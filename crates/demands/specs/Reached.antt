@@ -1,15 +1,17 @@
 -- The bounds of demand 3 are reached at every width. Document 01, "Slips to be kept out": "W+1 rows for every call. B shows W+2."
 use Prim.Native.Nat.{ℕ, zero, suc, _+_, _*_, _-_, _^_, _≤_, _<_}
 use mathlib.Core.Path.{_≡_}
-use mathlib.Core.Bool.{false}
 use mathlib.Core.List.{List, [], _∷_, _++_}
 use Rattle.ordered.specs.Dictionary.{Increasing}
 use Rattle.ordered.specs.Said.{_∈_}
-use Rattle.pretree.specs.Reply.{wrong-header}
+use lib.ListN.{length}
+use Rattle.pretree.specs.declared.Header.{Header}
+use Rattle.pretree.specs.Table.{capacity}
 use Rattle.pretree.specs.declared.Call.{Call}
-use Rattle.pretree.specs.declared.Call.the-variants.{Add, Del, Has, Next, Prev, Last}
-use Rattle.pretree.specs.Call.{after}
+use Rattle.pretree.specs.declared.Call.the-variants.{New, Add, Del, Has, Next, Prev, First, Last}
+use Rattle.demands.specs.Program.{Program, Asked, State, outcome, end-state}
 use Rattle.demands.specs.RowsRead.{rowsOver}
+use Rattle.demands.specs.Demand2.{Holding}
 
 -- the words whose rows hang each on the right of the one before, down to depth W: with m bits left below the path p, the path and then
 -- zeros, and below it the path with one bit 1 more. `chain W 0` is 0 and the 2^W − 2^(W−j) for j from 1 to W.
@@ -27,11 +29,13 @@ pub record SetOf (W : ℕ) (S : List ℕ) : Type 0 where
   pub increasing : Increasing S
   pub below : (x : ℕ) → x ∈ S → x < 2 ^ W
 
+-- An `add` reads W+1 rows only where its word is there already: a row at depth W on the way of a word is the row of that word.
 pub record Reached (W : ℕ) : Type 0 where
   pub a-set : SetOf W (chain W 0)
   pub has-reads : rowsOver (Has (2 ^ W - 1)) W (chain W 0) ≡ W + 1
   pub add-reads : rowsOver (Add (2 ^ W - 1)) W (chain W 0) ≡ W + 1
   pub del-reads : rowsOver (Del (2 ^ W - 1)) W (chain W 0) ≡ W + 1
+  pub first-reads : rowsOver First W (chain W 0) ≡ 1
   pub last-reads : rowsOver Last W (chain W 0) ≡ W + 1
 
 -- "B `prev` 4: 3, 5 rows. B `next` 3: 4, 5 rows."
@@ -40,17 +44,55 @@ pub record ReachedBeyond (W : ℕ) : Type 0 where
   pub next-reads : rowsOver (Next (2 ^ (W - 1) - 1)) W (parted-chain W) ≡ W + 2
   pub prev-reads : rowsOver (Prev (2 ^ (W - 1))) W (parted-chain W) ≡ W + 2
 
--- a table in which a call reads n rows, with a header of the width W
-pub record ReadIn (W : ℕ) (c : Call) (n : ℕ) : Type 0 where
-  pub count : ℕ
-  pub table : List ℕ
-  pub right : wrong-header (record { width = W; count = count }) table ≡ false
-  pub reads : (buffer : List ℕ) → after c (record { width = W; count = count }) table buffer .reply .rows ≡ n
+-- `new` W, and then an `add` of each word of S, with no buffer
+abbrev pub asked : Call → Asked
+asked c = record { call = c; buffer = [] }
 
--- so a call reads so many rows of some table, at every width that a header may have
-pub record ReachedIn (W : ℕ) : Type 0 where
-  pub has-reads : ReadIn W (Has (2 ^ W - 1)) (W + 1)
-  pub del-reads : ReadIn W (Del (2 ^ W - 1)) (W + 1)
-  pub last-reads : ReadIn W Last (W + 1)
-  pub next-reads : 3 ≤ W → ReadIn W (Next (2 ^ (W - 1) - 1)) (W + 2)
-  pub prev-reads : 3 ≤ W → ReadIn W (Prev (2 ^ (W - 1))) (W + 2)
+unfoldable pub adds : List ℕ → List Asked
+adds [] = []
+adds (x ∷ xs) = asked (Add x) ∷ adds xs
+
+abbrev pub making : ℕ → List ℕ → List Asked
+making W S = asked (New W) ∷ adds S
+
+module _ (program : Program) where
+  -- Calls lead there: after `new` W and an `add` of each word of S, in any state whose table has room for them, the table holds S, and there
+  -- the call c reads n rows.
+  pub record ReadAfterAdds (W : ℕ) (S : List ℕ) (c : Call) (n : ℕ) (s : State) : Type 0 where
+    pub width : end-state program (making W S) s .header .width ≡ W
+    pub held : Holding (end-state program (making W S) s .header) (end-state program (making W S) s .table) S
+    pub reads : (buffer : List ℕ) → outcome program (record { call = c; buffer = buffer }) (end-state program (making W S) s) .reply .rows ≡ n
+
+  abbrev pub ReadOnce : ℕ → List ℕ → Call → ℕ → Type 0
+  ReadOnce W S c n = (s : State) → length S ≤ capacity (s .table) → ReadAfterAdds W S c n s
+
+  -- at every width that a header may have
+  pub record ReachedByCalls (W : ℕ) : Type 0 where
+    pub has-reads : ReadOnce W (chain W 0) (Has (2 ^ W - 1)) (W + 1)
+    pub add-reads : ReadOnce W (chain W 0) (Add (2 ^ W - 1)) (W + 1)
+    pub del-reads : ReadOnce W (chain W 0) (Del (2 ^ W - 1)) (W + 1)
+    pub first-reads : ReadOnce W (chain W 0) First 1
+    pub last-reads : ReadOnce W (chain W 0) Last (W + 1)
+    pub next-reads : 3 ≤ W → ReadOnce W (parted-chain W) (Next (2 ^ (W - 1) - 1)) (W + 2)
+    pub prev-reads : 3 ≤ W → ReadOnce W (parted-chain W) (Prev (2 ^ (W - 1))) (W + 2)
+
+  -- n bounds the rows that a kind of call reads at the width W, in tables that hold a set
+  abbrev pub Bounds : (ℕ → Call) → ℕ → ℕ → Type 0
+  Bounds call W n =
+      (k : ℕ) (h : Header) (table buffer S : List ℕ) → Holding h table S → h .width ≡ W → program (call k) h table buffer .reply .rows ≤ n
+
+  -- m is such a bound, and no number below m is one
+  pub record LeastBound (call : ℕ → Call) (W m : ℕ) : Type 0 where
+    pub bounds : Bounds call W m
+    pub no-lower : (n : ℕ) → Bounds call W n → m ≤ n
+
+  -- "Finding, adding, first and last read at most W+1 rows, next and previous at most W+2. An erase reads at most W+1 [..]. For each W from 3
+  -- to 32 some set makes a next and some set a previous read W+2." `first` reads the root alone.
+  pub record LeastBounds (W : ℕ) : Type 0 where
+    pub has-bound : LeastBound Has W (W + 1)
+    pub add-bound : LeastBound Add W (W + 1)
+    pub del-bound : LeastBound Del W (W + 1)
+    pub first-bound : LeastBound (λ k. First) W 1
+    pub last-bound : LeastBound (λ k. Last) W (W + 1)
+    pub next-bound : 3 ≤ W → LeastBound Next W (W + 2)
+    pub prev-bound : 3 ≤ W → LeastBound Prev W (W + 2)

@@ -20,7 +20,7 @@ use Rattle.pretree.specs.Answer.{numberOf}
 use Rattle.pretree.specs.Reply.{wrong-width, wrong-header}
 use Rattle.pretree.specs.declared.Call.{Call}
 use Rattle.pretree.specs.declared.Call.the-variants.{New, Add, Del, Has, Next, Prev, Gap, First, Last, Audit}
-use Rattle.pretree.specs.Call.{after}
+use Rattle.demands.specs.Program.{Program}
 use Rattle.demands.specs.SoundIs.{HoldsSet}
 
 -- the rows of the ways of a call over the PreTree of the words of S. "`new` reads no row"; `audit` and `list`: "Both count `count` rows."
@@ -82,20 +82,21 @@ pub record Reports (refused : Bool) (read moving : ℕ) (r : Reply) : Type 0 whe
   pub rows-read : r .rows ≡ (if refused then 0 else read)
   pub moving-count : r .moved ≡ (if refused then 0 else moving)
 
--- on every table that holds a set, the counts are those of the ways over the set's PreTree
-abbrev pub RowsExact : Type 0
-RowsExact =
-    (c : Call) (h : Header) (table buffer S : List ℕ) → wrong-header h table ≡ false → HoldsSet h table S
-    → Reports (refusedOver c (h .width) S (capacity table) (length buffer)) (rowsOver c (h .width) S) (movedOver c h table S)
-    (after c h table buffer .reply)
+module _ (program : Program) where
+  -- on every table that holds a set, the counts are those of the ways over the set's PreTree
+  abbrev pub RowsExact : Type 0
+  RowsExact =
+      (c : Call) (h : Header) (table buffer S : List ℕ) → wrong-header h table ≡ false → HoldsSet h table S
+      → Reports (refusedOver c (h .width) S (capacity table) (length buffer)) (rowsOver c (h .width) S) (movedOver c h table S)
+      (program c h table buffer .reply)
 
--- two tables of equal length that hold the same words at the same width, whatever their row numbers, give the same rows read
-abbrev pub RowsAlike : Type 0
-RowsAlike =
-    (c : Call) (h h′ : Header) (table table′ buffer S : List ℕ)
-    → wrong-header h table ≡ false → wrong-header h′ table′ ≡ false
-    → HoldsSet h table S → HoldsSet h′ table′ S → h .width ≡ h′ .width → length table ≡ length table′
-    → after c h table buffer .reply .rows ≡ after c h′ table′ buffer .reply .rows
+  -- two tables of equal length that hold the same words at the same width, whatever their row numbers, give the same rows read
+  abbrev pub RowsAlike : Type 0
+  RowsAlike =
+      (c : Call) (h h′ : Header) (table table′ buffer buffer′ S : List ℕ)
+      → wrong-header h table ≡ false → wrong-header h′ table′ ≡ false
+      → HoldsSet h table S → HoldsSet h′ table′ S → h .width ≡ h′ .width → length table ≡ length table′ → length buffer ≡ length buffer′
+      → program c h table buffer .reply .rows ≡ program c h′ table′ buffer′ .reply .rows
 
 -- the most rows that a call reads
 unfoldable pub mostRows : Call → Header → ℕ
@@ -106,7 +107,7 @@ mostRows (Has k) h = h .width + 1
 mostRows (Next k) h = h .width + 2
 mostRows (Prev k) h = h .width + 2
 mostRows (Gap k) h = 2 * h .width + 4
-mostRows First h = h .width + 1
+mostRows First h = 1
 mostRows Last h = h .width + 1
 mostRows Audit h = h .count
 mostRows Call.List h = h .count
@@ -130,6 +131,6 @@ pub record AtMost (read moving : ℕ) (r : Reply) : Type 0 where
   pub few-moved : r .moved ≤ moving
 
 -- on every header, table and buffer, right or wrong, sound or damaged
-abbrev pub RowsBounded : Type 0
-RowsBounded =
-    (c : Call) (h : Header) (table buffer : List ℕ) → AtMost (mostRows c h) (mostMoved c h) (after c h table buffer .reply)
+abbrev pub RowsBounded : Program → Type 0
+RowsBounded program =
+    (c : Call) (h : Header) (table buffer : List ℕ) → AtMost (mostRows c h) (mostMoved c h) (program c h table buffer .reply)
