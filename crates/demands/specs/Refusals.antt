@@ -4,7 +4,7 @@ use Prim.Native.Nat.{ℕ, zero, suc, _*_, _^_, _≤_, _<_, pred}
 use mathlib.Core.Path.{_≡_}
 use mathlib.Core.Logic.{_↔_, _⊎_}
 use mathlib.Core.Bool.{true, false}
-use mathlib.Core.List.{List, [], _∷_}
+use mathlib.Core.List.{List, [], _∷_, _++_}
 use lib.ListN.{length, getD}
 use Rattle.ordered.specs.Tree.{Tree, row}
 use Rattle.ordered.specs.Way.{Way}
@@ -19,7 +19,8 @@ use Rattle.pretree.specs.Del.{secondWay}
 use Rattle.pretree.specs.Sound.{Sound}
 use Rattle.pretree.specs.declared.Call.{Call}
 use Rattle.pretree.specs.declared.Call.the-variants.{New, Add, Del, Has, Next, Prev, Gap, First, Last, Audit}
-use Rattle.pretree.specs.Call.{After, after}
+use Rattle.pretree.specs.Call.{After}
+use Rattle.demands.specs.Program.{Program}
 
 -- the ways of a call, whose rows are its count; the second way of `del` has a count of its own, and the other calls go no way
 unfoldable pub waysOf : Call → Header → List ℕ → List Way
@@ -48,8 +49,8 @@ abbrev pub Too-wide : Header → ℕ → Type 0
 Too-wide h k = 2 ^ h .width ≤ k
 
 -- "damage on the way"
-abbrev pub Damage : Call → Header → List ℕ → Type 0
-Damage c h table = brokenIn (waysOf c h table) ≡ true
+abbrev pub DamageOn : Call → Header → List ℕ → Type 0
+DamageOn c h table = brokenIn (waysOf c h table) ≡ true
 
 -- the way ends at row i with the key k
 abbrev pub EndsAt : ℕ → ℕ → Way → Type 0
@@ -70,35 +71,38 @@ Astray k h table =
 abbrev pub Full : ℕ → Header → List ℕ → Type 0
 Full k h table = (adding (h .width) k (shown h table) .present ≡ false) × (h .count ≡ capacity table)
 
--- six conditions, for the numbers 1 to 6; no other number is a refusal
-unfoldable pub for-each : Type 0 → Type 0 → Type 0 → Type 0 → Type 0 → Type 0 → ℕ → Type 0
-for-each one two three four five six zero = ⊥
-for-each one two three four five six (suc zero) = one
-for-each one two three four five six (suc (suc zero)) = two
-for-each one two three four five six (suc (suc (suc zero))) = three
-for-each one two three four five six (suc (suc (suc (suc zero)))) = four
-for-each one two three four five six (suc (suc (suc (suc (suc zero))))) = five
-for-each one two three four five six (suc (suc (suc (suc (suc (suc zero)))))) = six
-for-each one two three four five six (suc (suc (suc (suc (suc (suc (suc n))))))) = ⊥
+-- a check that a call makes: a refusal's number, and what it is given for
+infix 70 _when_
+pub record Check : Type 1 where
+  pub number : ℕ
+  pub condition : Type 0
 
--- The column "Given when", a line for each call: what the refusals 1, 2, 3, 4, 5 and 6 are given for. ⊥ is never.
-unfoldable pub GivenWhen : Call → Header → List ℕ → List ℕ → ℕ → Type 0
-GivenWhen (New W) h table buffer = for-each (Wrong-width W) ⊥ ⊥ ⊥ ⊥ ⊥
-GivenWhen (Add k) h table buffer = for-each ⊥ (Wrong-header h table) (Too-wide h k) (Damage (Add k) h table) (Full k h table) ⊥
-GivenWhen (Del k) h table buffer = for-each ⊥ (Wrong-header h table) (Too-wide h k) (Damage (Del k) h table ⊎ Astray k h table) ⊥ ⊥
-GivenWhen (Has k) h table buffer = for-each ⊥ (Wrong-header h table) (Too-wide h k) (Damage (Has k) h table) ⊥ ⊥
-GivenWhen (Next k) h table buffer = for-each ⊥ (Wrong-header h table) (Too-wide h k) (Damage (Next k) h table) ⊥ ⊥
-GivenWhen (Prev k) h table buffer = for-each ⊥ (Wrong-header h table) (Too-wide h k) (Damage (Prev k) h table) ⊥ ⊥
-GivenWhen (Gap k) h table buffer = for-each ⊥ (Wrong-header h table) (Too-wide h k) (Damage (Gap k) h table) ⊥ ⊥
-GivenWhen First h table buffer = for-each ⊥ (Wrong-header h table) ⊥ (Damage First h table) ⊥ ⊥
-GivenWhen Last h table buffer = for-each ⊥ (Wrong-header h table) ⊥ (Damage Last h table) ⊥ ⊥
-GivenWhen Audit h table buffer = for-each ⊥ (Wrong-header h table) ⊥ (¬ Sound h table) ⊥ ⊥
-GivenWhen Call.List h table buffer = for-each ⊥ (Wrong-header h table) ⊥ (¬ Sound h table) ⊥ (length buffer < h .count)
+abbrev pub _when_ : ℕ → Type 0 → Check
+n when P = record { number = n; condition = P }
 
--- "Order: [..] 1, 2, 3, 4, then 7 or 8, then 5. For `list`: 2, 4, 6.": a refusal is given where no refusal of a lower number is. (7 comes
--- before 5 because 5 is for an absent word.)
-abbrev pub Given : Call → Header → List ℕ → List ℕ → ℕ → Type 0
-Given c h table buffer n = GivenWhen c h table buffer n × ((m : ℕ) → m < n → ¬ GivenWhen c h table buffer m)
+-- the checks of header and table, in their order; every call but `new` makes them first
+abbrev pub header-checks : Header → List ℕ → List Check
+header-checks h table = 2 when Wrong-header h table ∷ []
+
+-- The checks of each call, in their order, with the column "Given when": "Order: 9, 1, 2, 3, 4, then 7 or 8, then 5. For `list`: 2, 4, 6."
+-- (7 comes before 5 because 5 is for an absent word.)
+unfoldable pub checks : Call → Header → List ℕ → List ℕ → List Check
+checks (New W) h table buffer = 1 when Wrong-width W ∷ []
+checks (Add k) h table buffer = header-checks h table ++ 3 when Too-wide h k ∷ 4 when DamageOn (Add k) h table ∷ 5 when Full k h table ∷ []
+checks (Del k) h table buffer = header-checks h table ++ 3 when Too-wide h k ∷ 4 when (DamageOn (Del k) h table ⊎ Astray k h table) ∷ []
+checks (Has k) h table buffer = header-checks h table ++ 3 when Too-wide h k ∷ 4 when DamageOn (Has k) h table ∷ []
+checks (Next k) h table buffer = header-checks h table ++ 3 when Too-wide h k ∷ 4 when DamageOn (Next k) h table ∷ []
+checks (Prev k) h table buffer = header-checks h table ++ 3 when Too-wide h k ∷ 4 when DamageOn (Prev k) h table ∷ []
+checks (Gap k) h table buffer = header-checks h table ++ 3 when Too-wide h k ∷ 4 when DamageOn (Gap k) h table ∷ []
+checks First h table buffer = header-checks h table ++ 4 when DamageOn First h table ∷ []
+checks Last h table buffer = header-checks h table ++ 4 when DamageOn Last h table ∷ []
+checks Audit h table buffer = header-checks h table ++ 4 when (¬ Sound h table) ∷ []
+checks Call.List h table buffer = header-checks h table ++ 4 when (¬ Sound h table) ∷ 6 when (length buffer < h .count) ∷ []
+
+-- n is the number of the first check, from the top, whose condition holds
+unfoldable pub FirstGiven : List Check → ℕ → Type 0
+FirstGiven [] n = ⊥
+FirstGiven (c ∷ cs) n = (c .condition × (n ≡ c .number)) ⊎ (¬ c .condition × FirstGiven cs n)
 
 -- "1 to 6 [..] are refusals"
 pub record Refusal (n : ℕ) : Type 0 where
@@ -117,29 +121,26 @@ pub record SameFrom (n : ℕ) (words words′ : List ℕ) : Type 0 where
   pub same-length : length words′ ≡ length words
   pub same-words : (i : ℕ) → n ≤ i → getD words′ i 0 ≡ getD words i 0
 
-abbrev pub numberAfter : Call → Header → List ℕ → List ℕ → ℕ
-numberAfter c h table buffer = numberOf (after c h table buffer .reply .answer)
+module _ (program : Program) where
+  abbrev pub numberAfter : Call → Header → List ℕ → List ℕ → ℕ
+  numberAfter c h table buffer = numberOf (program c h table buffer .reply .answer)
 
-pub record Refusals (c : Call) (h : Header) (table buffer : List ℕ) : Type 0 where
-  -- each refusal number is given exactly where document 01 says
-  pub given-exactly : (n : ℕ) → Refusal n → (numberAfter c h table buffer ≡ n) ↔ Given c h table buffer n
-  -- "counts 0, header, table and buffer untouched"
-  pub refusal :
-      Refusal (numberAfter c h table buffer)
-      → Untouched h table buffer (after c h table buffer) × (after c h table buffer .reply .rows ≡ 0)
-  -- "7 and 8 report their true counts and change nothing."
-  pub seven-eight :
-      (numberAfter c h table buffer ≡ 7) ⊎ (numberAfter c h table buffer ≡ 8)
-      → Untouched h table buffer (after c h table buffer) × (after c h table buffer .reply .rows ≡ rowsOf (waysOf c h table))
-  -- "Words past the last whole row, or past that limit, are never changed."
-  pub past-the-rows : SameFrom (3 * capacity table) table (after c h table buffer .table)
-  -- "`list` [..] leaves the rest of the buffer"
-  pub past-the-listing : SameFrom (h .count) buffer (after c h table buffer .buffer)
+  pub record Refusals (c : Call) (h : Header) (table buffer : List ℕ) : Type 0 where
+    -- each refusal number is given exactly where document 01 says
+    pub given-exactly : (n : ℕ) → Refusal n → (numberAfter c h table buffer ≡ n) ↔ FirstGiven (checks c h table buffer) n
+    -- "counts 0, header, table and buffer untouched"
+    pub refusal :
+        Refusal (numberAfter c h table buffer)
+        → Untouched h table buffer (program c h table buffer) × (program c h table buffer .reply .rows ≡ 0)
+    -- "7 and 8 report their true counts and change nothing."
+    pub seven-eight :
+        (numberAfter c h table buffer ≡ 7) ⊎ (numberAfter c h table buffer ≡ 8)
+        → Untouched h table buffer (program c h table buffer) × (program c h table buffer .reply .rows ≡ rowsOf (waysOf c h table))
+    -- "Words past the last whole row, or past that limit, are never changed."
+    pub past-the-rows : SameFrom (3 * capacity table) table (program c h table buffer .table)
+    -- "`list` [..] leaves the rest of the buffer"
+    pub past-the-listing : SameFrom (h .count) buffer (program c h table buffer .buffer)
 
--- what the contract of a call allows: it is an equality, reply, table and buffer at once
-abbrev pub Allowed : Call → Header → List ℕ → List ℕ → After → Type 0
-Allowed c h table buffer a = a ≡ after c h table buffer
-
--- "show that any two outcomes it allows are equal". (For the comparison of two captures, `one-part` of crate `capture`.)
-abbrev pub OneOutcome : Type 0
-OneOutcome = (c : Call) (h : Header) (table buffer : List ℕ) (a b : After) → Allowed c h table buffer a → Allowed c h table buffer b → a ≡ b
+  -- the demand: for every call, header, table and buffer
+  abbrev pub Demand1 : Type 0
+  Demand1 = (c : Call) (h : Header) (table buffer : List ℕ) → Refusals c h table buffer
