@@ -11,9 +11,8 @@ use Rattle.ordered.specs.Said.{_∈_}
 use Rattle.pretree.specs.declared.Header.{Header}
 use Rattle.pretree.specs.declared.Reply.{Reply}
 use Rattle.pretree.specs.Answer.{numberOf, keyOf}
-use Rattle.pretree.specs.Table.{capacity, rowAt, cleared}
+use Rattle.pretree.specs.Table.{capacity}
 use Rattle.pretree.specs.Reply.{fresh, wrong-width, wrong-header}
-use Rattle.pretree.specs.Whole.{newReply, newTable}
 use Rattle.pretree.specs.declared.Call.{Call}
 use Rattle.pretree.specs.Call.{After, after}
 use Rattle.demands.specs.SoundIs.{HoldsSet}
@@ -47,16 +46,6 @@ KeepsDictionary c h table buffer S =
 -- the demand: for every call, header, table and buffer, and every set that the table holds
 abbrev pub Demand2 : Type 0
 Demand2 = (c : Call) (h : Header) (table buffer S : List ℕ) → Holding h table S → KeepsDictionary c h table buffer S
-
--- "Rows in use are 0 to count−1. All later rows up to capacity hold three zeros after `new`, and our calls keep it so."
-abbrev pub LaterZeros : Header → List ℕ → Type 0
-LaterZeros h table = (i : ℕ) → h .count ≤ i → i < capacity table → rowAt table i ≡ cleared
-
-pub record ZerosKept : Type 0 where
-  pub after-new : (w : ℕ) (h : Header) (table : List ℕ) → wrong-width w ≡ false → LaterZeros (newReply h w .header) (newTable table w)
-  pub kept-so :
-      (c : Call) (h : Header) (table buffer S : List ℕ) → Holding h table S → LaterZeros h table
-      → LaterZeros (after c h table buffer .reply .header) (after c h table buffer .table)
 
 -- The corollary for sequences: "for every sequence of calls", each on the header, table and buffer that the one before left
 unfoldable pub answers : List Call → Header → List ℕ → List ℕ → List Said
