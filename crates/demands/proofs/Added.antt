@@ -10,13 +10,11 @@ use borrow.Author.Tests.{ltb-false, leb-false, le-ltb, eqb-false, ne-eqb}
 use Rattle.ordered.specs.Such.{if_then_else_, last-such, anything}
 use Rattle.ordered.specs.Dictionary.{insert, lookup}
 use Rattle.ordered.specs.Word.{Side, left, right}
-use Rattle.ordered.specs.Said.{_∈_}
 use Rattle.ordered.specs.Tree.{Tree, none, row, Entry, exists, listing, intact}
 use Rattle.ordered.specs.Proper.{Fitting, Proper}
 use Rattle.ordered.specs.Way.{Step, Way, way, rows, joined, following, pushing}
 use Rattle.ordered.specs.Change.{Adding, adding, adding-by, ends-at, pushed, left-over, numberAt}
 use Rattle.ordered.specs.Grown.{linking as turned, linked as chained, shifted, pushed-tree, grown as grown-tree}
-use Rattle.ordered.proofs.Parts.{each-of-all}
 use Rattle.ordered.proofs.OneTree.{root-fits, proper-intact}
 use Rattle.ordered.proofs.Ways.{linked-again}
 use Rattle.ordered.proofs.Moves.{taken-by, shifted-takes, linked-append}
@@ -34,15 +32,15 @@ use Rattle.pretree.specs.Add.{Outcome, taking, hooking, grown, addOutcome}
 use Rattle.pretree.proofs.Writing.{same-capacity}
 use Rattle.pretree.specs.declared.Call.the-variants.{Add}
 use Rattle.pretree.specs.Call.{After, after}
-use Rattle.demands.specs.Numbers.{numbers}
 use Rattle.demands.specs.Expected.{Said, Kept, only, expected, changed, kept-after}
-use Rattle.demands.specs.Demand2.{Holding, Keeps, keptBy, KeepsDictionary, LaterZeros}
-use Rattle.demands.proofs.Tested.{shown-as, shown-in-use, shown-once}
+use Rattle.demands.specs.Demand2.{Holding, Keeps, keptBy, KeepsDictionary}
+use Rattle.demands.proofs.Tested.{shown-as, shown-once}
+use Rattle.demands.proofs.Owned.{added-kept}
 use Rattle.demands.proofs.SoundIs.{held-by-listing}
 use Rattle.demands.proofs.Answered.{undamaged, lists, proper, narrow, nothing-changed}
 use Rattle.demands.proofs.Spelled.{Told, Spelled, no-row, a-row, root-number, unfolded-spelled, spelled-shows}
-use Rattle.demands.proofs.Writes.{row-written, row-elsewhere, taking-length, hooking-length, row-length}
-use Rattle.demands.proofs.Rewritten.{Once, Same-places, no-place, one-place, same-places, shifted-places, joined-places, same-numbers, none-part, entries-taken, end-hooked, unchanged-taken, way-elsewhere, taking-both}
+use Rattle.demands.proofs.Writes.{row-written, row-elsewhere, taking-length, hooking-length}
+use Rattle.demands.proofs.Rewritten.{Once, Same-places, no-place, one-place, same-places, shifted-places, joined-places, same-numbers, none-part, entries-taken, end-hooked, unchanged-taken, taking-both}
 
 -- a set with one word more
 insert-length : (x : ℕ) (s : List ℕ) → lookup x s ≡ false → length (insert x s) ≡ suc (length s)
@@ -215,17 +213,6 @@ module _ (h : Header) (table S : List ℕ) (H : Holding h table S) (k : ℕ) whe
           (λ some. record { not-root = λ there e. omega arith }) places once-later moved-spelled
           (λ j below. row-elsewhere (h .count) hooked-table j (λ e. omega arith) last-row))
 
-  -- a row past the count
-  pub not-in-use : (j : ℕ) → h .count ≤ j → j ∈ numbers t → ⊥
-  not-in-use j past inside = omega (arith, each-of-all (shown-in-use h table (undamaged H)) inside)
-
-  pub beyond-add : ends-at k w ≡ false → (j : ℕ) → suc (h .count) ≤ j → rowAt after-add j ≡ rowAt table j
-  beyond-add absent j past =
-      ap (λ x. rowAt x j) (table-after absent)
-      ∙ row-elsewhere (h .count) (hooking (last-such anything before) (h .count) (taking (taken-by later) table)) j (λ e. omega arith)
-      (record { entry = record { key = left-over new-entry (push .passed) .key }; left = 0; right = 0 })
-      ∙ way-elsewhere places (push .end) (h .count) table j (rw before-whole (not-in-use j (omega arith)))
-
   present-is : a .present ≡ ends-at k w
   unfolding adding
   present-is = by-cases (ends-at k w)
@@ -235,10 +222,7 @@ module _ (h : Header) (table S : List ℕ) (H : Holding h table S) (k : ℕ) whe
       by-cases false = refl
 
   same-long : length after-add ≡ length table
-  unfolding grown
-  same-long =
-      row-length (h .count) (record { entry = record { key = a .new-entry .key }; left = 0; right = 0 }) (hooking (a .hook) (h .count) (taking (a .takes) table))
-      ∙ hooking-length (a .hook) (h .count) (taking (a .takes) table) ∙ taking-length (a .takes) table
+  same-long = added-kept h table k (suc (h .count)) (omega arith) .same-length
 
   module _ (small : leb (2 ^ h .width) k ≡ false) where
     present-so : a .present ≡ lookup k S
@@ -324,13 +308,3 @@ module _ (h : Header) (table S : List ℕ) (H : Holding h table S) (k : ℕ) whe
           (left-by (outcome wide there (eqb (h .count) (capacity table))))
       by-width true e there so = nothing-changed h table buffer S H (refused h WordTooWide) (only 3) refl refl
       by-width false e there so = rw (so e, H .holds .number) (by-room e (lookup k S) refl (eqb (h .count) (capacity table)) refl)
-
-  pub zeros-add : LaterZeros h table → LaterZeros (addOutcome h table k .reply .header) (addOutcome h table k .table)
-  zeros-add zeros = rw outcome-so (by-cases (leb (2 ^ h .width) k) (a .present) refl (eqb (h .count) (capacity table)))
-    where
-      by-cases : (wide there : Bool) → a .present ≡ there → (full : Bool) → LaterZeros (outcome wide there full .reply .header) (outcome wide there full .table)
-      by-cases true there is full = zeros
-      by-cases false true is full = zeros
-      by-cases false false is true = zeros
-      by-cases false false is false =
-          λ j past room. beyond-add (sym present-is ∙ is) j past ∙ zeros j (omega arith) (omega (arith, same-capacity after-add table same-long))

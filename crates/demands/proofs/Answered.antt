@@ -1,11 +1,11 @@
 -- Demand 2 of the calls that write no row: `has`, `next`, `prev`, `gap`, `first`, `last`, `audit`, `list`; and of `new`.
-use Prim.Native.Nat.{ℕ, _+_, _*_, _/_, _^_, _<_}
+use Prim.Native.Nat.{ℕ, _*_, _/_, _^_}
 use mathlib.Core.Path.{_≡_, refl, ap, _∙_}
 use mathlib.Core.Bool.{Bool, true, false}
 use mathlib.Core.List.{List, [], _++_}
 use native.Mathlib.Omega.{arith}
 use lib.Dec.{ltb, leb, eqb}
-use lib.ListN.{length, getD, drop, replicate, length-replicate, getD-replicate, List·getD-append, length-append, length-drop}
+use lib.ListN.{length, drop, replicate}
 use borrow.Author.Tests.{leb-false, le-ltb}
 use Rattle.ordered.specs.Such.{if_then_else_, Perhaps, no-such, such}
 use Rattle.ordered.specs.Dictionary.{lookup, min, max, successor, predecessor}
@@ -21,18 +21,18 @@ use Rattle.pretree.specs.declared.Answer.{Answer}
 use Rattle.pretree.specs.declared.Answer.the-variants.{Done, Word, Distance, WrongWidth, WordTooWide, ShortBuffer}
 use Rattle.pretree.specs.declared.Reply.{Reply}
 use Rattle.pretree.specs.Answer.{numberOf, keyOf}
-use Rattle.pretree.specs.Table.{capacity, rowAt}
+use Rattle.pretree.specs.Table.{capacity}
 use Rattle.pretree.specs.Unfold.{shown}
 use Rattle.pretree.specs.Reply.{fresh, wrong-width, wrong-header, too-wide, refused, answered}
 use Rattle.pretree.specs.Find.{saying, done, read-reply, hasReply, nextReply, prevReply, gapReply, firstReply, lastReply}
 use Rattle.pretree.specs.Whole.{newReply, newTable, auditReply, listReply, listBuffer}
-use Rattle.pretree.proofs.Writing.{same-capacity}
 use Rattle.pretree.specs.declared.Call.{Call}
 use Rattle.pretree.specs.declared.Call.the-variants.{New, Has, Next, Prev, Gap, First, Last, Audit}
 use Rattle.pretree.specs.Call.{After, after}
 use Rattle.demands.specs.Expected.{Said, Kept, only, word, expected, changed, kept-after}
-use Rattle.demands.specs.Demand2.{Holding, saidIn, Keeps, keptBy, KeepsDictionary, LaterZeros}
+use Rattle.demands.specs.Demand2.{Holding, saidIn, Keeps, keptBy, KeepsDictionary}
 use Rattle.demands.proofs.Tested.{shown-proper}
+use Rattle.demands.proofs.Owned.{new-kept}
 use Rattle.demands.proofs.SoundIs.{tree-intact, tree-listing, test-of-set, held-by-listing}
 
 -- document 01's number and key of an answer
@@ -82,34 +82,6 @@ empty-held W table right =
 -- the table that `new` leaves
 abbrev cleaned : List ℕ → List ℕ
 cleaned table = replicate (3 * capacity table) 0 ++ drop (3 * capacity table) table
-
-clean-length : (table : List ℕ) → length (cleaned table) ≡ length table
-unfolding capacity
-clean-length table = rw (length-append, length-replicate, length-drop) (omega arith)
-
-clean-word : (table : List ℕ) (p : ℕ) → p < 3 * capacity table → getD (cleaned table) p 0 ≡ 0
-clean-word table p room =
-    let zeros : List ℕ = replicate (3 * capacity table) 0 in
-    List·getD-append zeros (drop (3 * capacity table) table) 0 p (omega (arith, length-replicate {A = ℕ} (3 * capacity table) 0))
-    ∙ getD-replicate (3 * capacity table) p 0 0 room
-
-clean-zeros : (w : ℕ) (table : List ℕ) → LaterZeros (fresh w) (cleaned table)
-unfolding rowAt
-clean-zeros w table i past room =
-    let fits : i < capacity table = omega (arith, same-capacity (cleaned table) table (clean-length table)) in
-    rw (clean-word table (3 * i) (omega arith), clean-word table (3 * i + 1) (omega arith), clean-word table (3 * i + 2) (omega arith))
-
-pub new-zeros : (w : ℕ) (h : Header) (table : List ℕ) → wrong-width w ≡ false → LaterZeros (newReply h w .header) (newTable table w)
-unfolding newReply newTable
-new-zeros w h table right = rw right (clean-zeros w table)
-
-pub zeros-new : (w : ℕ) (h : Header) (table : List ℕ) → LaterZeros h table → LaterZeros (newReply h w .header) (newTable table w)
-unfolding newReply newTable
-zeros-new w h table zeros = by-cases (wrong-width w)
-  where
-    by-cases : (b : Bool) → LaterZeros ((if b then refused h WrongWidth else answered (fresh w) Done 0) .header) (if b then table else cleaned table)
-    by-cases true = zeros
-    by-cases false = clean-zeros w table
 
 module _ (h : Header) (table buffer S : List ℕ) (H : Holding h table S) where
   abbrev kept : Kept
@@ -202,4 +174,4 @@ module _ (h : Header) (table buffer S : List ℕ) (H : Holding h table S) where
           → Keeps (if b then only 1 else only 0) (if eqb ((if b then only 1 else only 0) .number) 0 then record { width = w; set = []; buffer = buffer } else kept) table
           (record { reply = if b then refused h WrongWidth else answered (fresh w) Done 0; table = if b then table else cleaned table; buffer = buffer })
       either true e = nothing-changed (refused h WrongWidth) (only 1) refl refl
-      either false e = record { answer = refl; width = refl; held = empty-held w (cleaned table) e; written = refl; same-length = clean-length table }
+      either false e = record { answer = refl; width = refl; held = empty-held w (cleaned table) e; written = refl; same-length = rw e at (new-kept table w .same-length) }

@@ -17,6 +17,7 @@ pub mod Rewritten
 pub mod Added
 pub mod Erasures
 pub mod Removed
+pub mod Zeros
 pub mod Demand2
 pub mod History
 pub mod Making

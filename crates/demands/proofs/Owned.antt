@@ -13,7 +13,7 @@ use borrow.Author.Tests.{ltb-true, ltb-false, eqb-false, not-false}
 use Rattle.ordered.specs.Such.{if_then_else_, Perhaps, no-such, such, only-if, anything}
 use Rattle.ordered.specs.Word.{Side, left, right, bitOf}
 use Rattle.ordered.specs.Tree.{Tree, none, row, damaged, Entry, part, listing}
-use Rattle.ordered.specs.Way.{Step, Way, Rule, way, joined, following, pushing, down, broken}
+use Rattle.ordered.specs.Way.{Step, Way, Rule, way, rows, joined, following, pushing, down, broken}
 use Rattle.ordered.specs.Reading.{keyAt}
 use Rattle.ordered.specs.Change.{Take, pushed, raised, isThere, ends-at, numberAt, entryAt, above-end, Adding, adding-by, adding, Erasing, erasing-by, erasing}
 use Rattle.ordered.proofs.Parts.{All, none-all, one-all, all-append, If-such, last-such-one}
@@ -21,9 +21,11 @@ use Rattle.ordered.proofs.Ways.{along}
 use Rattle.ordered.proofs.OneTree.{listing-length}
 use Rattle.pretree.specs.declared.Header.{Header}
 use Rattle.pretree.specs.declared.Row.{Row}
+use Rattle.pretree.specs.declared.Answer.the-variants.{Done, WrongHeader, WordTooWide, Damage, Full, AlreadyThere, NoSuchWord}
+use Rattle.pretree.specs.declared.Reply.{Reply}
 use Rattle.pretree.specs.Table.{capacity, rowAt, link, withKey, withLink, withRow, cleared}
 use Rattle.pretree.specs.Unfold.{judged, linked, unfolded, shown}
-use Rattle.pretree.specs.Reply.{wrong-width, wrong-header, too-wide}
+use Rattle.pretree.specs.Reply.{wrong-width, wrong-header, too-wide, refused, answered}
 use Rattle.pretree.specs.Sound.{isSound}
 use Rattle.pretree.specs.Whole.{newTable, listBuffer}
 use Rattle.pretree.specs.Add.{Outcome, taking, hooking, grown, addOutcome}
@@ -253,53 +255,93 @@ module _ (c : ℕ) where
       by-cases false = same-all (3 * c)
 
 -- what a test says may be used on its side
-by-test : {X : Type 0} (P : X → Type 0) (t : Bool) {x y : X} → (t ≡ true → P x) → (t ≡ false → P y) → P (if t then x else y)
+pub by-test : {X : Type 0} (P : X → Type 0) (t : Bool) {x y : X} → (t ≡ true → P x) → (t ≡ false → P y) → P (if t then x else y)
 by-test P true if-so if-not = if-so refl
 by-test P false if-so if-not = if-not refl
 
 module _ (h : Header) (table : List ℕ) (k : ℕ) where
+  abbrev a : Adding
+  a = adding (h .width) k (shown h table)
+
+  abbrev e : Erasing
+  e = erasing (h .width) k (shown h table)
+
+  abbrev last : ℕ
+  last = pred (h .count)
+
+  abbrev moves : Bool
+  moves = not (eqb (e .hole) last)
+
+  abbrev second : Way
+  second = secondWay h table
+
+  -- what `add` and `del` leave where they write
+  abbrev pub added : Outcome
+  added =
+      record {
+        reply = answered (record { width = h .width; count = suc (h .count) }) Done (rows (a .rows-read));
+        table = grown (h .count) a table;
+      }
+
+  abbrev pub removed : Outcome
+  removed =
+      record {
+        reply =
+            record {
+              header = record { width = h .width; count = last };
+              answer = Done;
+              rows = rows (e .rows-read);
+              moved = if moves then rows second else 0;
+            };
+        table = shrunk last e second moves table;
+      }
+
+  -- no row from number c on is another then, where the rows in use, with the new one, are below c
+  pub added-kept : (c : ℕ) → h .count < c → Kept c table (added .table)
+  added-kept c room =
+      let used = adding-in-use c (h .width) k (shown h table) (shown-in-use c h table (omega arith)) in
+      grown-kept c (h .count) a table room (used .0) (used .1)
+
+  pub removed-kept : (c : ℕ) → h .count ≤ c → e .present ≡ true → Kept c table (removed .table)
+  unfolding secondWay
+  removed-kept c fits present =
+      let some = erasing-in-use (h .count) (h .width) k (shown h table) (shown-in-use (h .count) h table (omega arith)) present .some in
+      let owned : pred (h .count) < c = omega arith in
+      let used : InUse c (shown h table) = shown-in-use c h table fits in
+      let second-used = way-in-use c (following (rowAt table last .entry .key)) (h .width) (shown h table) used in
+      shrunk-kept c last e second moves table owned (erasing-in-use c (h .width) k (shown h table) used present)
+      (last-such-one anything (second-used .0))
+
+  -- where they don't write, they leave the header and the table: what holds of such an outcome and of that above holds of every one
+  module _ (P : Outcome → Type 0) (unchanged : (r : Reply) → r .header ≡ h → P (record { reply = r; table = table })) where
+    pub add-outcome : (h .count < capacity table → P added) → P (addOutcome h table k)
+    unfolding addOutcome
+    add-outcome written =
+        by-test P (wrong-header h table) (λ wrong. unchanged (refused h WrongHeader) refl)
+        (λ right. by-test P (too-wide h k) (λ wide. unchanged (refused h WordTooWide) refl)
+        (λ narrow. by-test P (broken (a .rows-read)) (λ damage. unchanged (refused h Damage) refl)
+        (λ whole. by-test P (a .present) (λ there. unchanged (answered h AlreadyThere (rows (a .rows-read))) refl)
+        (λ absent. by-test P (eqb (h .count) (capacity table)) (λ full. unchanged (refused h Full) refl)
+        (λ room. written (omega (arith, right-header h table right .has-room, eqb-false (h .count) (capacity table) room)))))))
+
+    pub del-outcome : (h .count ≤ capacity table → e .present ≡ true → P removed) → P (delOutcome h table k)
+    unfolding delOutcome
+    del-outcome written =
+        by-test P (wrong-header h table) (λ wrong. unchanged (refused h WrongHeader) refl)
+        (λ right. by-test P (too-wide h k) (λ wide. unchanged (refused h WordTooWide) refl)
+        (λ narrow. by-test P (broken (e .rows-read)) (λ damage. unchanged (refused h Damage) refl)
+        (λ whole. by-test P (not (e .present)) (λ absent. unchanged (answered h NoSuchWord (rows (e .rows-read))) refl)
+        (λ there. by-test P (moves && (broken second || astray h table second)) (λ damage. unchanged (refused h Damage) refl)
+        (λ led. written (right-header h table right .has-room) (not-false (e .present) there))))))
+
   abbrev Keeps : Outcome → Type 0
   Keeps o = Kept (capacity table) table (o .table)
 
   pub add-kept : Keeps (addOutcome h table k)
-  unfolding addOutcome
-  add-kept =
-      let c : ℕ = capacity table in
-      let a : Adding = adding (h .width) k (shown h table) in
-      let same : Kept c table table = same-all (3 * c) in
-      by-test Keeps (wrong-header h table) (λ e. same)
-      (λ right. by-test Keeps (too-wide h k) (λ e. same)
-      (λ narrow. by-test Keeps (broken (a .rows-read)) (λ e. same)
-      (λ whole. by-test Keeps (a .present) (λ e. same)
-      (λ absent. by-test Keeps (eqb (h .count) c) (λ e. same)
-      (λ room.
-      let fits = right-header h table right .has-room in
-      let not-full : h .count ≡ c → ⊥ = eqb-false (h .count) c room in
-      let used = adding-in-use c (h .width) k (shown h table) (shown-in-use c h table fits) in
-      grown-kept c (h .count) a table (omega arith) (used .0) (used .1))))))
+  add-kept = add-outcome Keeps (λ r same. same-all (3 * capacity table)) (added-kept (capacity table))
 
   pub del-kept : Keeps (delOutcome h table k)
-  unfolding delOutcome secondWay
-  del-kept =
-      let c : ℕ = capacity table in
-      let e : Erasing = erasing (h .width) k (shown h table) in
-      let last : ℕ = pred (h .count) in
-      let moves : Bool = not (eqb (e .hole) last) in
-      let second : Way = secondWay h table in
-      let same : Kept c table table = same-all (3 * c) in
-      by-test Keeps (wrong-header h table) (λ e. same)
-      (λ right. by-test Keeps (too-wide h k) (λ e. same)
-      (λ narrow. by-test Keeps (broken (e .rows-read)) (λ e. same)
-      (λ whole. by-test Keeps (not (e .present)) (λ e. same)
-      (λ there. by-test Keeps (moves && (broken second || astray h table second)) (λ e. same)
-      (λ led.
-      let fits = right-header h table right .has-room in
-      let present : e .present ≡ true = not-false (e .present) there in
-      let some = erasing-in-use (h .count) (h .width) k (shown h table) (shown-in-use (h .count) h table (omega arith)) present .some in
-      let used : InUse c (shown h table) = shown-in-use c h table fits in
-      let second-used = way-in-use c (following (rowAt table last .entry .key)) (h .width) (shown h table) used in
-      shrunk-kept c last e second moves table (omega arith) (erasing-in-use c (h .width) k (shown h table) used present)
-      (last-such-one anything (second-used .0)))))))
+  del-kept = del-outcome Keeps (λ r same. same-all (3 * capacity table)) (removed-kept (capacity table))
 
 -- a front of n words written anew
 front-kept : (n : ℕ) (front words : List ℕ) → length front ≡ n → n ≤ length words → SameFrom n words (front ++ drop n words)

@@ -20,7 +20,6 @@ use Rattle.ordered.specs.Reading.{keyAt, has}
 use Rattle.ordered.specs.Change.{Erasing, erasing, erasing-by, ends-at, above-end, raised, numberAt, entryAt}
 use Rattle.ordered.specs.Grown.{linked as chained, lifted, popped-tree, shrunk as shrunk-tree}
 use Rattle.ordered.proofs.Bits.{on-root-path}
-use Rattle.ordered.proofs.Parts.{last-such-one}
 use Rattle.ordered.proofs.OneTree.{root-fits, proper-intact}
 use Rattle.ordered.proofs.Dictionary.{lookup-whether}
 use Rattle.ordered.proofs.Ways.{linked-again, unbroken}
@@ -41,14 +40,14 @@ use Rattle.pretree.specs.declared.Call.the-variants.{Del}
 use Rattle.pretree.specs.Call.{After, after}
 use Rattle.demands.specs.Numbers.{numbers, often, renamed}
 use Rattle.demands.specs.Expected.{Said, Kept, only, expected, changed, kept-after}
-use Rattle.demands.specs.Demand2.{Holding, Keeps, keptBy, KeepsDictionary, LaterZeros}
+use Rattle.demands.specs.Demand2.{Holding, Keeps, keptBy, KeepsDictionary}
 use Rattle.demands.proofs.Links.{linking, moved-into, LastMoved, last-row-moved}
 use Rattle.demands.proofs.SoundIs.{held-by-listing}
 use Rattle.demands.proofs.Answered.{undamaged, lists, proper, narrow, nothing-changed}
 use Rattle.demands.proofs.Spelled.{Spelled, no-row, spelled-shows, spelled-frame}
 use Rattle.demands.proofs.Writes.{row-written, row-elsewhere, link-written, link-elsewhere, taking-length, hooking-length, row-length}
-use Rattle.demands.proofs.Rewritten.{Once, in-often, often-in, Same-places, same-places, lifted-places, joined-places, same-numbers, none-part, entries-taken, end-hooked, unchanged-taken, apart-from, hooking-elsewhere, way-elsewhere, taking-both, chained-often, end-spelled, Hook-told, no-hook, hook-is}
-use Rattle.demands.proofs.Added.{shown-spelled, root-first, rows-once, right-width, has-room, rows-fit, shown-so, not-in-use}
+use Rattle.demands.proofs.Rewritten.{Once, in-often, often-in, Same-places, same-places, lifted-places, joined-places, same-numbers, none-part, entries-taken, end-hooked, unchanged-taken, taking-both, chained-often, end-spelled, Hook-told, no-hook, hook-is}
+use Rattle.demands.proofs.Added.{shown-spelled, root-first, rows-once, right-width, has-room, rows-fit, shown-so}
 use Rattle.demands.proofs.Erasures.{Leaf, Leaf-told, keyOf-row, spelled-keys, delete-length, end-proper, leaf-end, ends-row, in-map, one-key, taking-link, hooking-link, leaf-told, end-is, hook-names, popped-first, listed-there, root-in, renamed-intact, renamed-listing, root-stays, shown-root, one-more, no-words}
 
 module _ (h : Header) (table S : List ℕ) (H : Holding h table S) (k : ℕ) where
@@ -401,39 +400,6 @@ module _ (h : Header) (table S : List ℕ) (H : Holding h table S) (k : ℕ) whe
           holds = held-by-listing less (final moves) (shows-after small there .0) (shows-after small there .1) (new-number small there);
         }
 
-    -- a row past the new count: the last row is cleared, the later ones stay as they were
-    beyond-del : (moves : Bool) → LaterZeros h table → LaterZeros less (final moves)
-    unfolding moving secondWay
-    beyond-del moves zeros j past room = by-cases (eqb j last) refl
-      where
-        inner : List ℕ
-        inner = if moves then moving hole last second unlinked else unlinked
-
-        inner-long : (b : Bool) → length (if b then moving hole last second unlinked else unlinked) ≡ length table
-        inner-long true =
-            hooking-length (above-end second) hole (withRow hole (rowAt unlinked last) unlinked)
-            ∙ row-length hole (rowAt unlinked last) unlinked ∙ unlinked-long
-        inner-long false = unlinked-long
-
-        later-row : h .count ≤ j → rowAt unlinked j ≡ rowAt table j
-        later-row beyond = way-elsewhere places (stretch .end) 0 table j (rw before-whole (not-in-use h table S H k j beyond))
-
-        inner-row : h .count ≤ j → (b : Bool) → rowAt (if b then moving hole last second unlinked else unlinked) j ≡ rowAt table j
-        inner-row beyond true =
-            hooking-elsewhere (above-end second) hole (withRow hole (rowAt unlinked last) unlinked) j
-            (last-such-one anything (apart-from (same-places (second .passed)) (second .end) j (rw second-whole (not-in-use h table S H k j beyond)) .0))
-            ∙ row-elsewhere hole unlinked j (λ e. omega (arith, hole-told .in-use)) (rowAt unlinked last) ∙ later-row beyond
-        inner-row beyond false = later-row beyond
-
-        by-cases : (b : Bool) → eqb j last ≡ b → rowAt (withRow last cleared inner) j ≡ cleared
-        by-cases true same =
-            ap (rowAt (withRow last cleared inner)) (eqb-true j last same)
-            ∙ row-written last inner (omega (arith, fit, inner-long moves, one-row)) cleared
-        by-cases false differ =
-            let beyond : h .count ≤ j = omega (arith, one-row, eqb-false j last differ) in
-            row-elsewhere last inner j (eqb-false j last differ) cleared ∙ inner-row beyond moves
-            ∙ zeros j beyond (omega (arith, same-capacity (final moves) table (same-long moves)))
-
   present-is : e .present ≡ ends-at k w
   unfolding erasing
   present-is = by-cases (ends-at k w)
@@ -507,14 +473,3 @@ module _ (h : Header) (table S : List ℕ) (H : Holding h table S) (k : ℕ) whe
           → Keeps (said wide (lookup k S)) (kept (said wide (lookup k S))) table (left-by (outcome wide there wrong))
       by-width true small there so wrong never = nothing-changed h table buffer S H (refused h WordTooWide) (only 3) refl refl
       by-width false small there so wrong never = rw (so small) (by-lookup small (lookup k S) refl wrong (never small))
-
-  pub zeros-del : LaterZeros h table → LaterZeros (delOutcome h table k .reply .header) (delOutcome h table k .table)
-  zeros-del zeros = rw outcome-so (by-cases (leb (2 ^ h .width) k) (e .present) refl bad)
-    where
-      by-cases : (wide there : Bool) → e .present ≡ there → (wrong : Bool) → LaterZeros (outcome wide there wrong .reply .header) (outcome wide there wrong .table)
-      by-cases true there is wrong = zeros
-      by-cases false false is wrong = zeros
-      by-cases false true is true = zeros
-      by-cases false true is false =
-          let present : ends-at k w ≡ true = sym present-is ∙ is in
-          rw (after-so present) (beyond-del present (not (eqb hole last)) zeros)

@@ -171,13 +171,12 @@ part-so : {t t′ : Tree} → (numberAt t′ ≡ numberAt t) × (exists t′ ≡
 part-so same p = record { not-root = λ there e. p .not-root (sym (same .1) ∙ there) (sym (same .0) ∙ e) }
 
 -- a row that is not among those of a way
-pub apart-from : {ss us : List Step} → Same-places ss us → (u : Tree) (j : ℕ) → (j ∈ numbers (chained ss u) → ⊥) → All (λ s. s .at ≡ j → ⊥) us × All (λ s. s .at ≡ j → ⊥) ss
+apart-from : {ss us : List Step} → Same-places ss us → (u : Tree) (j : ℕ) → (j ∈ numbers (chained ss u) → ⊥) → All (λ s. s .at ≡ j → ⊥) us
 unfolding chained
-apart-from no-place u j out = (none-all, none-all)
+apart-from no-place u j out = none-all
 apart-from (one-place {s} {ss} {us} e p) u j out =
     let here : s .at ≡ j → ⊥ = λ same. out (Memᴰ·cast (sym same) (at-in (s .at) (s .entry) (s .turn) (s .left-part) (s .right-part) (chained ss u))) in
-    let rest = apart-from p u j (λ there. out (on-in (s .at) (s .entry) (s .turn) (s .left-part) (s .right-part) (chained ss u) there)) in
-    (one-all here (rest .0), one-all here (rest .1))
+    one-all here (apart-from p u j (λ there. out (on-in (s .at) (s .entry) (s .turn) (s .left-part) (s .right-part) (chained ss u) there)))
 
 pub taking-elsewhere : (us : List Step) (table : List ℕ) (j : ℕ) → All (λ s. s .at ≡ j → ⊥) us → rowAt (taking (taken-by us) table) j ≡ rowAt table j
 unfolding taking
@@ -209,13 +208,13 @@ entries-taken n (one-place {s} {ss} {us} e p) u table room once spelled =
     let aside′ : Spelled (rowAt after) n (part (other (s .turn)) l r) =
     spelled-frame (part (other (s .turn)) l r) (o .aside-spelled) (λ j there below. (
       below,
-      taking-elsewhere us first j (apart-from p u j (aside-not-on i (s .entry) (s .turn) l r g once j there) .0)
+      taking-elsewhere us first j (apart-from p u j (aside-not-on i (s .entry) (s .turn) l r g once j there))
           ∙ key-elsewhere i table j (λ same. at-not-aside i (s .entry) (s .turn) l r g once (Memᴰ·cast (sym same) there)) (e .key),
     )) in
     closed-turn i e (s .turn) l r g′ (record {
       in-use = o .in-use;
       as-told =
-          taking-elsewhere us first i (apart-from p u i (at-not-on i (s .entry) (s .turn) l r g once) .0) ∙ key-written i table fits (e .key)
+          taking-elsewhere us first i (apart-from p u i (at-not-on i (s .entry) (s .turn) l r g once)) ∙ key-written i table fits (e .key)
           ∙ ap (keyed (e .key)) (o .as-told) ∙ rekeyed (s .entry) e (s .turn) l r g g′ (first-place p u .0);
       aside-part = o .aside-part;
       on-part = part-so (first-place p u) (o .on-part);
@@ -223,7 +222,7 @@ entries-taken n (one-place {s} {ss} {us} e p) u table room once spelled =
       on-spelled = on′;
     })
 
-pub hooking-elsewhere : (p : Perhaps Step) (v : ℕ) (table : List ℕ) (j : ℕ) → If-such (λ s. s .at ≡ j → ⊥) p → rowAt (hooking p v table) j ≡ rowAt table j
+hooking-elsewhere : (p : Perhaps Step) (v : ℕ) (table : List ℕ) (j : ℕ) → If-such (λ s. s .at ≡ j → ⊥) p → rowAt (hooking p v table) j ≡ rowAt table j
 hooking-elsewhere no-such v table j h = refl
 hooking-elsewhere (such s) v table j h = link-elsewhere (s .at) table j (λ e. h (sym e)) (s .turn) v
 
@@ -272,7 +271,7 @@ module _ (n n′ : ℕ) (u u′ : Tree) (table : List ℕ) (rows′ : ℕ → Ro
         let stays : (j : ℕ) → (j ∈ numbers g → ⊥) → j < n → rows′ j ≡ rowAt table j =
         λ j out below.
         so′ j below
-        ∙ hooking-elsewhere (last-such anything ts) (numberAt u′) table j (last-such-one anything (apart-from (same-symmetric onward) u j out .0)) in
+        ∙ hooking-elsewhere (last-such anything ts) (numberAt u′) table j (last-such-one anything (apart-from (same-symmetric onward) u j out)) in
         closed-turn i e (s .turn) l r g′ (record {
           in-use = omega (arith, o .in-use);
           as-told =
@@ -364,11 +363,3 @@ often-in j (x ∷ xs) h = by-cases (eqb j x) refl h (often-in j xs)
     by-cases : (b : Bool) → eqb j x ≡ b → 1 ≤ (if b then 1 else 0) + often j xs → (1 ≤ often j xs → j ∈ xs) → j ∈ x ∷ xs
     by-cases true e h rest = List·Memᴰ·head (eqb-true j x e)
     by-cases false e h rest = List·Memᴰ·tail (rest (omega arith))
-
--- and a row that is not in the tree stays as it was
-pub way-elsewhere :
-    {ss us : List Step} → Same-places ss us → (u : Tree) (v : ℕ) (table : List ℕ) (j : ℕ) → (j ∈ numbers (chained ss u) → ⊥)
-    → rowAt (hooking (last-such anything ss) v (taking (taken-by us) table)) j ≡ rowAt table j
-way-elsewhere {ss} {us} p u v table j out =
-    hooking-elsewhere (last-such anything ss) v (taking (taken-by us) table) j (last-such-one anything (apart-from p u j out .1))
-    ∙ taking-elsewhere us table j (apart-from p u j out .0)

@@ -41,7 +41,7 @@ module _ (h : Header) (table : List ℕ) where
         shown-as (λ t. intact t ≡ true → Proper (h .width) 0 0 t) (λ i. none-proper (h .width) 0 0)
         (unfolded-proper (rowAt table) (h .count) (h .width) 0 0 0) undamaged
 
-    pub shown-in-use : All (λ i. i < h .count) (numbers (shown h table))
+    shown-in-use : All (λ i. i < h .count) (numbers (shown h table))
     unfolding numbers
     shown-in-use =
         shown-as (λ t. intact t ≡ true → All (λ i. i < h .count) (numbers t)) (λ i. none-all)

@@ -12,10 +12,9 @@ use Rattle.pretree.specs.declared.Header.{Header}
 use Rattle.pretree.specs.declared.Reply.{Reply}
 use Rattle.pretree.specs.declared.Call.{Call}
 use Rattle.pretree.specs.Answer.{numberOf, keyOf}
-use Rattle.pretree.specs.Table.{capacity, rowAt, cleared}
+use Rattle.pretree.specs.Table.{capacity}
 use Rattle.pretree.specs.Reply.{fresh, wrong-width, wrong-header}
-use Rattle.pretree.specs.Whole.{newReply, newTable}
-use Rattle.pretree.specs.Call.{After, after}
+use Rattle.pretree.specs.Call.{After}
 use Rattle.demands.specs.Program.{Program, Asked, State, outcome, state-after, end-state}
 use Rattle.demands.specs.SoundIs.{HoldsSet}
 use Rattle.demands.specs.Expected.{Said, Kept, lending, expected, kept-after, kept-after-call, kept-at-end}
@@ -96,13 +95,3 @@ pub record HeldIn (W : ℕ) (S rest : List ℕ) : Type 0 where
 abbrev pub EverySetHeld : Type 0
 EverySetHeld =
     (W : ℕ) (S rest : List ℕ) → wrong-width W ≡ false → Increasing S → ((x : ℕ) → x ∈ S → x < 2 ^ W) → length S ≤ 65535 → HeldIn W S rest
-
--- "Rows in use are 0 to count−1. All later rows up to capacity hold three zeros after `new`, and our calls keep it so."
-abbrev pub LaterZeros : Header → List ℕ → Type 0
-LaterZeros h table = (i : ℕ) → h .count ≤ i → i < capacity table → rowAt table i ≡ cleared
-
-pub record ZerosKept : Type 0 where
-  pub after-new : (w : ℕ) (h : Header) (table : List ℕ) → wrong-width w ≡ false → LaterZeros (newReply h w .header) (newTable table w)
-  pub kept-so :
-      (c : Call) (h : Header) (table buffer S : List ℕ) → Holding h table S → LaterZeros h table
-      → LaterZeros (after c h table buffer .reply .header) (after c h table buffer .table)
