@@ -22,3 +22,4 @@ pub mod Demand2
 pub mod History
 pub mod Making
 pub mod Reached
+pub mod ShutOut

@@ -15,3 +15,4 @@ pub mod Expected
 pub mod Demand2
 pub mod History
 pub mod Reached
+pub mod ShutOut
