@@ -13,18 +13,22 @@ use Rattle.demands.specs.History.{ReportsAs, History, HistoryFromEmpty, 
 use Rattle.demands.proofs.RowsRead.{rows-exact, rows-alike}
 use Rattle.demands.proofs.Demand2.{throughout, sequences-from-empty, empty-holds}
 
+-- `rows-exact` of a call with a buffer of its own, where the table has room for `room` words
+module _ (room : ℕ) (a : Asked) (s : State) (k : Kept) (same-room : capacity (s .table) ≡ room) (H : HoldsKept s k) where
+  pub reports-as : ReportsAs after room a s k
+  reports-as =
+      let P : ℕ → ℕ → Type 0 =
+      λ r W.
+      Reports (refusedOver (a .call) W (k .set) r (length (a .buffer))) (rowsOver (a .call) W (k .set))
+      (movedOver (a .call) (s .header) (s .table) (k .set)) (outcome after a s .reply) in
+      subst (λ r. P r (k .width)) same-room
+      (subst (P (capacity (s .table))) (H .width)
+      (rows-exact (a .call) (s .header) (s .table) (a .buffer) (k .set) (H .held .right-header) (H .held .holds)))
+
 pub history : History after
-history cs s k H = throughout (capacity (s .table)) (ReportsAs after (capacity (s .table))) reports cs s k (refl, H)
-  where
-    reports : (a : Asked) (t : State) (l : Kept) → (capacity (t .table) ≡ capacity (s .table)) × HoldsKept t l → ReportsAs after (capacity (s .table)) a t l
-    reports a t l here =
-        let P : ℕ → ℕ → Type 0 =
-        λ room W.
-        Reports (refusedOver (a .call) W (l .set) room (length (a .buffer))) (rowsOver (a .call) W (l .set))
-        (movedOver (a .call) (t .header) (t .table) (l .set)) (outcome after a t .reply) in
-        subst (λ room. P room (l .width)) (here .0)
-        (subst (P (capacity (t .table))) (here .1 .width)
-        (rows-exact (a .call) (t .header) (t .table) (a .buffer) (l .set) (here .1 .held .right-header) (here .1 .held .holds)))
+history cs s k H =
+    let room : ℕ = capacity (s .table) in
+    throughout room (ReportsAs after room) (λ a s k here. reports-as room a s k (here .0) (here .1)) cs s k (refl, H)
 
 pub history-from-empty : HistoryFromEmpty after
 history-from-empty cs W table right = history cs (empty-state W table) (empty-kept W) (empty-holds W table right)

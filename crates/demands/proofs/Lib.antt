@@ -23,3 +23,4 @@ pub mod History
 pub mod Making
 pub mod Reached
 pub mod ShutOut
+pub mod Lines

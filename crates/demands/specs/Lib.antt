@@ -16,3 +16,4 @@ pub mod Demand2
 pub mod History
 pub mod Reached
 pub mod ShutOut
+pub mod Lines
