@@ -1,5 +1,5 @@
--- "The rows met from row 0 in the order row, left part, right part" are those of the tree that is shown, where it shows no damage; and it
--- shows none where the rows that are met are as document 01 asks of a sound table.
+-- Document 01's "rows met from row 0 in the order row, left part, right part" are those of the tree that is shown, where it shows no damage;
+-- and it shows none where the rows that are met are as document 01 asks of a sound table.
 use Prim.Native.Nat.{ℕ, zero, suc, _+_, _*_, _-_, _/_, _^_, _≤_, _<_}
 use mathlib.Core.Path.{_≡_, refl, ap, ap₂, _∙_}
 use mathlib.Core.Bool.{Bool, true, false}

@@ -58,7 +58,7 @@ expected Audit capacity s = only 0
 expected Call.List capacity s = if ltb (length (s .buffer)) (length (s .set)) then only 6 else only 0
 
 -- what a call does where it is done: "insert(x), which adds x to S"; "delete(x), which removes x from S"; "`new` (an empty set)";
--- "`list` writes [the listing] to a lent buffer [..] and leaves the rest of the buffer"
+-- "`list` writes it to a lent buffer of 32-bit words and leaves the rest of the buffer"
 unfoldable pub changed : Call → Kept → Kept
 changed (New w) s = record { width = w; set = []; buffer = s .buffer }
 changed (Add k) s = record { width = s .width; set = insert k (s .set); buffer = s .buffer }

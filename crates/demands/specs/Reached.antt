@@ -38,7 +38,7 @@ pub record Reached (W : ℕ) : Type 0 where
   pub first-reads : rowsOver First W (chain W 0) ≡ 1
   pub last-reads : rowsOver Last W (chain W 0) ≡ W + 1
 
--- "B `prev` 4: 3, 5 rows. B `next` 3: 4, 5 rows."
+-- "*B `prev` 4: 3, 5 rows. *B `next` 3: 4, 5 rows."
 pub record ReachedBeyond (W : ℕ) : Type 0 where
   pub a-set : SetOf W (parted-chain W)
   pub next-reads : rowsOver (Next (2 ^ (W - 1) - 1)) W (parted-chain W) ≡ W + 2

@@ -1,5 +1,5 @@
--- What it is to be sound: the words of document 01, the test that `audit` makes, and "the sound tree of a set" say the same of every table;
--- and a set has one such tree.
+-- What it is to be sound: the words of document 01, the test that `audit` makes, and to be the PreTree of some set are the same for every
+-- table; and a set has one such tree.
 use Prim.Native.Nat.{ℕ, _*_, _^_, _<_}
 use mathlib.Core.Path.{_≡_}
 use mathlib.Core.Logic.{_↔_, _⊎_}
@@ -16,8 +16,8 @@ use Rattle.pretree.specs.Unfold.{shown}
 use Rattle.pretree.specs.Sound.{Sound, isSound}
 use Rattle.demands.specs.Numbers.{numbers, often}
 
--- The table holds the set S: it shows "the sound tree of a set [..]: its least word at the root, the rest parted by the next bit, and so on
--- down", in "the rows 0 to count−1, each once".
+-- The table holds the set S: it shows the PreTree of S ("The sound tree of a set is: its least word at the root, the rest parted by the next
+-- bit, and so on down."), in "the rows 0 to count−1, each once".
 pub record HoldsSet (h : Header) (table S : List ℕ) : Type 0 where
   pub increasing : Increasing S
   pub below : (x : ℕ) → x ∈ S → x < 2 ^ h .width

@@ -190,8 +190,8 @@ next-by-answer : (w : Way) (q : Perhaps ℕ) (p : Perhaps Step) → next-by w q 
 next-by-answer w no-such p = child-read p
 next-by-answer w (such x) p = refl
 
--- the greatest word that lies left of a way: at its last row p, "if the way turned right at p and p has a left child, go down from that
--- child, [..]. Otherwise p"
+-- the greatest word that lies left of a way, by its last row p: "If the way turned right at p and p has a left child, go down from that
+-- child, [..] Otherwise p."
 prior : Perhaps Step → Perhaps ℕ
 prior no-such = no-such
 prior (such p) = first-of (max (left-aside (p .turn) (p .left-part))) (such (p .entry .key))

@@ -156,7 +156,7 @@ module _ (m path low : ℕ) (l r : Tree) (parts : (s : Side) → Proper m (path 
       going-append right m (listing l) (listing r)
       ∙ ap₂ _++_ (going-none right m (going-to left)) (going-all right m (going-to right))
 
--- "One tree": a proper tree is, row numbers apart, the PreTree of what it lists
+-- a proper tree is, row numbers apart, the PreTree of what it lists
 pub one-tree : (m path low : ℕ) (t : Tree) → Proper m path low t → unnumbered t ≡ treeOf m (listing t)
 unfolding listing unnumbered treeOf
 one-tree =

@@ -95,7 +95,7 @@ impl Header {
     }
 }
 
-// The push from the row at which a walk ended, judged. "By its own bits" is the turn of a walk that seeks the row's key past itself.
+// The push from the row at which a walk ended, judged. Document 01's "by its own bits" is the turn of a walk that seeks the row's key past itself.
 fn push_way(table: &[u32], w: Walk) -> Walk
     requires { ⌜ (w .count ≤ capacity (now table)) × GoingSome (rowAt (now table)) pushing (resumed w) ⌝ }
     ensures { λ r. ⌜ GoneOn (rowAt (now (table .entry))) pushing (resumed w) r ⌝ }
