@@ -1,14 +1,13 @@
 -- What the dictionary keeps after `new` and an `add` of each word of a set, in increasing order: that set. So the calls lead to a table that
--- holds it.
-use Prim.Native.Nat.{ℕ, suc, pred, _+_, _^_, _≤_, _<_}
+-- holds it, and its last row has the greatest word.
+use Prim.Native.Nat.{ℕ, pred, _^_, _≤_, _<_}
 use mathlib.Core.Path.{_≡_, refl, sym, ap, subst, _∙_}
-use mathlib.Core.Bool.{true, false}
+use mathlib.Core.Bool.{false}
 use mathlib.Core.List.{List, [], _∷_, _++_, append-nil, append-assoc, List·Memᴰ·head, Memᴰ·append-left, Memᴰ·append-right}
 use native.Mathlib.Omega.{arith}
 use lib.Dec.{leb, eqb}
 use lib.ListN.{length, length-append}
 use borrow.Author.Tests.{lt-leb, ne-eqb}
-use Rattle.ordered.specs.Such.{if_then_else_}
 use Rattle.ordered.specs.Dictionary.{Increasing, insert}
 use Rattle.ordered.specs.Said.{_∈_}
 use Rattle.ordered.proofs.Lists.{increasing-parts}
@@ -113,7 +112,8 @@ module _ (W : ℕ) (S : List ℕ) (x : ℕ) (s : State) (right : wrong-width W �
     greatest-last =
         let fewer : length S < capacity (s .table) = omega (arith, length-append S (x ∷ [])) in
         let here = made W S s right others (omega arith) in
-        let small : leb (2 ^ before-last .header .width) x ≡ false = rw (here .width) (lt-leb (2 ^ W) x (set .below x (Memᴰ·append-right S (List·Memᴰ·head refl)))) in
+        let small : leb (2 ^ before-last .header .width) x ≡ false =
+        rw (here .width) (lt-leb (2 ^ W) x (set .below x (Memᴰ·append-right S (List·Memᴰ·head refl)))) in
         let not-full : eqb (before-last .header .count) (capacity (before-last .table)) ≡ false =
         ne-eqb (before-last .header .count) (capacity (before-last .table)) (λ same.
         omega (arith, here .held .holds .number, same-room W S s right others (omega arith))) in

@@ -1,16 +1,17 @@
--- The bounds of demand 3 are reached at every width: the proofs of specs/Reached.antt, by the trees of its two sets.
-use Prim.Native.Nat.{ℕ, zero, suc, pred, min, _+_, _*_, _-_, _/_, _^_, _≤_, _<_}
+-- The bounds of demand 3 are reached at every width: the proofs of specs/Reached.antt, by the trees of its three sets.
+use Prim.Native.Nat.{ℕ, zero, suc, pred, _+_, _*_, _-_, _^_, _≤_, _<_}
 use mathlib.Core.Path.{_≡_, refl, sym, ap, subst, _∙_}
-use mathlib.Core.Bool.{Bool, true, false, or-true}
-use mathlib.Core.List.{List, [], _∷_, _++_, append-nil}
+use mathlib.Core.Bool.{Bool, true, false, not, _&&_, or-true}
+use mathlib.Core.List.{List, [], _∷_, _++_, append-nil, List·Memᴰ·head, List·Memᴰ·tail}
 use native.Mathlib.Nat.{zero-add, add-mul, mul-assoc, one-mul, zero-mul, pow-succ'}
 use native.Mathlib.Omega.{arith}
 use lib.Dec.{ltb, leb, eqb}
 use lib.Pow.{pow-pos, pow-mono, pow-lt, shl-shr, high, ones-lt}
 use lib.ListN.{length, replicate, length-append, length-replicate}
-use borrow.Author.Tests.{lt-ltb, le-ltb, le-leb, lt-leb, eq-eqb, ne-eqb}
+use borrow.Author.Tests.{lt-ltb, le-ltb, le-leb, lt-leb, eqb-false, eq-eqb, ne-eqb}
 use Rattle.ordered.specs.Such.{if_then_else_, Perhaps, no-such, such, only-if, last-such}
-use Rattle.ordered.specs.Dictionary.{lookup}
+use Rattle.ordered.specs.Dictionary.{Increasing, none-increasing, one-increasing, lookup}
+use Rattle.ordered.specs.Said.{_∈_}
 use Rattle.ordered.specs.Word.{Side, left, right, side}
 use Rattle.ordered.specs.Tree.{Tree, none, row, exists, listing, unnumbered, treeOf}
 use Rattle.ordered.specs.Proper.{Proper}
@@ -18,6 +19,7 @@ use Rattle.ordered.specs.Way.{Way, Step, Rule, to, ending, passing, way, rows, 
 use Rattle.ordered.specs.Reading.{rowsOf, keyAt, right-left-aside, next-by, has as has-over, next as next-over, prev as prev-over, first as first-over, last as last-over}
 use Rattle.ordered.specs.Change.{ends-at, adding-by, adding, erasing-by, erasing}
 use Rattle.ordered.proofs.Bits.{on-root-path, whole-path, side-of-part}
+use Rattle.ordered.proofs.Lists.{above-less}
 use Rattle.ordered.proofs.Parts.{each-of-all}
 use Rattle.ordered.proofs.OneTree.{keys-fit, keys-rise, one-tree}
 use Rattle.pretree.specs.declared.Header.{Header}
@@ -37,6 +39,7 @@ use Rattle.demands.proofs.Unfolding.{none-proper}
 use Rattle.demands.proofs.Spelled.{Spelled, no-row, a-row}
 use Rattle.demands.proofs.RowsRead.{rows-exact, rows-bounded}
 use Rattle.demands.proofs.Added.{shown-spelled}
+use Rattle.demands.proofs.Removed.{three-rows}
 use Rattle.demands.proofs.Making.{words, made, last-key, greatest-last}
 
 -- the tree of a chain
@@ -324,8 +327,14 @@ module _ (n : ℕ) where
       }
 
   -- the tree of a forked chain
+  abbrev row-of-one : Tree
+  row-of-one = row 0 (record { key = 1 }) none none
+
   abbrev fork : Tree
-  fork = row 0 (record { key = 0 }) (row 0 (record { key = 1 }) none none) (ladder (suc n) 1)
+  fork = row 0 (record { key = 0 }) row-of-one (ladder (suc n) 1)
+
+  abbrev fork-step : Step
+  fork-step = record { at = 0; entry = record { key = 0 }; turn = right; left-part = row-of-one; right-part = ladder (suc n) 1; below = suc n }
 
   fork-lists : listing fork ≡ forked-chain (suc (suc n))
   unfolding listing forked-chain
@@ -367,10 +376,9 @@ module _ (n : ℕ) where
   greatest-rows : rows (way (following greatest) (suc (suc n)) fork) ≡ suc (suc n) + 1
   unfolding way following
   greatest-rows =
-      let s : Step = record { at = 0; entry = record { key = 0 }; turn = right; left-part = row 0 (record { key = 1 }) none none; right-part = ladder (suc n) 1; below = suc n } in
       let r = rightmost greatest (following greatest) (following-right greatest) (suc n) 1 greatest-top in
       rw (lt-ltb 0 greatest (omega (arith, pow-pos n)), goes-right greatest (suc n) 0 greatest-top)
-      (rows-passing s (way (following greatest) (suc n) (ladder (suc n) 1)) ∙ omega (arith, rightmost-rows r))
+      (rows-passing fork-step (way (following greatest) (suc n) (ladder (suc n) 1)) ∙ omega (arith, rightmost-rows r))
 
   -- 1 turns left at the root, and its row has no parts
   one-left : side (suc n) 1 ≡ left
@@ -446,38 +454,37 @@ chain-ends (suc m) p =
     (p * 2 ^ suc m ∷ below .0, ap (λ xs. p * 2 ^ suc m ∷ xs) (rw (top-step m p) at (below .1)))
 
 module _ (n : ℕ) where
-  abbrev W : ℕ
-  W = suc (suc n)
-
-  abbrev S : List ℕ
-  S = forked-chain W
+  abbrev forked : List ℕ
+  forked = forked-chain (suc (suc n))
 
   one-less : 1 < greatest n
   one-less = omega (arith, pow-pos n)
 
   -- in every table that holds a forked chain with its greatest word in the last row
   fork-moved :
-      (h : Header) (table buffer : List ℕ) → Holding h table S → h .width ≡ W → rowAt table (pred (h .count)) .entry .key ≡ greatest n
-      → after (Del 1) h table buffer .reply .moved ≡ W + 1
+      (h : Header) (table buffer : List ℕ) → Holding h table forked → h .width ≡ suc (suc n) → rowAt table (pred (h .count)) .entry .key ≡ greatest n
+      → after (Del 1) h table buffer .reply .moved ≡ suc (suc n) + 1
   unfolding refusedOver movedOver moves forked-chain lookup
   fork-moved h table buffer H width last =
       let hole : ℕ = erasing (h .width) 1 (shown h table) .hole in
       let small : leb (2 ^ h .width) 1 ≡ false = rw width (lt-leb (2 ^ suc (suc n)) 1 (omega (arith, one-less))) in
       let holds-one : rowAt table hole .entry .key ≡ 1 =
-      ap (λ w. rowAt table (erasing w 1 (shown h table) .hole) .entry .key) width
-      ∙ hole-of-one n (shown-spelled H) (H .holds .tree ∙ ap (λ w. treeOf w S) width ∙ fork-tree n) in
+      ap (λ W. rowAt table (erasing W 1 (shown h table) .hole) .entry .key) width
+      ∙ hole-of-one n (shown-spelled H) (H .holds .tree ∙ ap (λ W. treeOf W forked) width ∙ fork-tree n) in
       let goes : eqb hole (pred (h .count)) ≡ false =
       ne-eqb hole (pred (h .count)) (λ same. omega (arith, one-less, ap (λ j. rowAt table j .entry .key) same)) in
-      rows-exact (Del 1) h table buffer S (H .right-header) (H .holds) .moving-count ∙ rw (small, goes, last, width, fork-tree n) (greatest-rows n)
+      rows-exact (Del 1) h table buffer forked (H .right-header) (H .holds) .moving-count ∙ rw (small, goes, last, width, fork-tree n) (greatest-rows n)
 
-  moved-once : W ≤ 32 → ReadOnce after moving-count W S (Del 1) (W + 1)
+  -- as it is after `new` and an `add` of each word
+  fork-reads : suc (suc n) ≤ 32 → ReadOnce after moving-count (suc (suc n)) forked (Del 1) (suc (suc n) + 1)
   unfolding forked-chain
-  moved-once fits s room =
+  fork-reads fits s room =
+      let W : ℕ = suc (suc n) in
       let right : wrong-width W ≡ false = right-width W (omega arith) fits in
-      let end : State = end-state after (making W S) s in
-      let here : HoldsKept end (words W S) = made W S s right (fork-set n) room in
+      let end : State = end-state after (making W forked) s in
+      let here : HoldsKept end (words W forked) = made W forked s right (fork-set n) room in
       let below = chain-ends (suc n) 1 in
-      let ends : S ≡ (0 ∷ 1 ∷ below .0) ++ (greatest n ∷ []) =
+      let ends : forked ≡ (0 ∷ 1 ∷ below .0) ++ (greatest n ∷ []) =
       rw (less-one n) (ap (λ xs. 0 ∷ 1 ∷ xs) (rw (greatest-top n) at (below .1))) in
       let last : last-key end ≡ greatest n =
       subst (λ xs. SetOf W xs → length xs ≤ capacity (s .table) → last-key (end-state after (making W xs) s) ≡ greatest n) (sym ends)
@@ -488,10 +495,10 @@ module _ (n : ℕ) where
         reads = λ buffer. fork-moved (end .header) (end .table) buffer (here .held) (here .width) last;
       }
 
-once-moved : (W : ℕ) → 2 ≤ W → W ≤ 32 → ReadOnce after moving-count W (forked-chain W) (Del 1) (W + 1)
-once-moved zero two fits = absurd (omega arith)
-once-moved (suc zero) two fits = absurd (omega arith)
-once-moved (suc (suc n)) two fits = moved-once n fits
+moved-once : (W : ℕ) → 2 ≤ W → W ≤ 32 → ReadOnce after moving-count W (forked-chain W) (Del 1) (W + 1)
+moved-once zero two fits = absurd (omega arith)
+moved-once (suc zero) two fits = absurd (omega arith)
+moved-once (suc (suc n)) two fits = fork-reads n fits
 
 pub reached-by-calls : (W : ℕ) → 1 ≤ W → W ≤ 32 → ReachedByCalls after W
 unfolding refusedOver
@@ -513,12 +520,52 @@ reached-by-calls W some fits =
       prev-reads =
           λ three.
           rw (reached-beyond W three .prev-reads) at (on-parted three (Prev (2 ^ (W - 1))) (λ room space. lt-leb (2 ^ W) (2 ^ (W - 1)) half));
-      del-moves = λ two. once-moved W two fits;
+      del-moves = λ two. moved-once W two fits;
     }
   where
     on-parted : 3 ≤ W → (c : Call) → ((room space : ℕ) → refusedOver c W (parted-chain W) room space ≡ false)
         → ReadOnce after rows-read W (parted-chain W) c (rowsOver c W (parted-chain W))
     on-parted three = read-once W some fits (parted-chain W) (reached-beyond W three .a-set)
+
+-- increasing words from `low` up to n
+increasing-few : (low n : ℕ) {xs : List ℕ} → Increasing xs → ((x : ℕ) → x ∈ xs → low ≤ x) → ((x : ℕ) → x ∈ xs → x < n) → length xs ≤ n - low
+increasing-few low n none-increasing from below = omega arith
+increasing-few low n (one-increasing {x} a h) from below =
+    omega (
+      arith,
+      from x (List·Memᴰ·head refl),
+      below x (List·Memᴰ·head refl),
+      increasing-few (suc x) n h (λ y there. above-less a there) (λ y there. below y (List·Memᴰ·tail there)),
+    )
+
+-- with words of one bit a set has two words at most, and a move takes three rows
+module _ (k : ℕ) (h : Header) (table buffer S : List ℕ) (H : Holding h table S) (narrow : h .width < 2) where
+  few-rows : h .count ≤ 2
+  few-rows =
+      let two : 2 ^ h .width ≤ 2 ^ 1 = pow-mono {j = 1} (omega arith) in
+      omega (arith, increasing-few 0 (2 ^ h .width) (H .holds .increasing) (λ x there. omega arith) (H .holds .below), H .holds .number)
+
+  nothing-moves : after (Del k) h table buffer .reply .moved ≡ 0
+  unfolding refusedOver movedOver moves
+  nothing-moves =
+      rows-exact (Del k) h table buffer S (H .right-header) (H .holds) .moving-count
+      ∙ by-cases (leb (2 ^ h .width) k) refl (lookup k S) refl (eqb hole last) refl
+    where
+      hole : ℕ
+      hole = erasing (h .width) k (shown h table) .hole
+
+      last : ℕ
+      last = pred (h .count)
+
+      second : ℕ
+      second = rows (way (following (rowAt table last .entry .key)) (h .width) (treeOf (h .width) S))
+
+      by-cases : (wide : Bool) → leb (2 ^ h .width) k ≡ wide → (there : Bool) → lookup k S ≡ there → (same : Bool) → eqb hole last ≡ same
+          → (if wide then 0 else if there && not same then second else 0) ≡ 0
+      by-cases true small there is same how = refl
+      by-cases false small false is same how = refl
+      by-cases false small true is true how = refl
+      by-cases false small true is false how = absurd (omega (arith, few-rows, three-rows h table S H k small is (eqb-false hole last how)))
 
 -- a table with room for n words
 roomy : ℕ → State
@@ -555,6 +602,11 @@ least-bounds W some fits =
           λ two. record {
             bounds = λ k h table buffer S held width. omega (arith, rows-bounded (Del k) h table buffer .few-moved);
             no-lower = no-less moving-count Del 1 (omega (arith, forked-length W two)) (r .del-moves two);
+          };
+      no-move =
+          λ one. record {
+            bounds = λ k h table buffer S held width. omega (arith, nothing-moves k h table buffer S held (omega arith));
+            no-lower = λ n bounds. omega arith;
           };
     }
   where

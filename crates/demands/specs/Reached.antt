@@ -101,8 +101,8 @@ module _ (program : Program) where
     pub no-lower : (n : ℕ) → Bounds count call W n → m ≤ n
 
   -- "Finding, adding, first and last read at most W+1 rows, next and previous at most W+2. An erase reads at most W+1, with at most W+1 more
-  -- for the move. For each W from 3 to 32 some set makes a next and some set a previous read W+2." `first` reads the root alone. At the width
-  -- 1 no row moves.
+  -- for the move. For each W from 3 to 32 some set makes a next and some set a previous read W+2." `first` reads the root alone. No row moves
+  -- at the width 1, where a set has two words at most: a move takes three rows.
   pub record LeastBounds (W : ℕ) : Type 0 where
     pub has-bound : LeastBound rows-read Has W (W + 1)
     pub add-bound : LeastBound rows-read Add W (W + 1)
@@ -112,3 +112,4 @@ module _ (program : Program) where
     pub next-bound : 3 ≤ W → LeastBound rows-read Next W (W + 2)
     pub prev-bound : 3 ≤ W → LeastBound rows-read Prev W (W + 2)
     pub move-bound : 2 ≤ W → LeastBound moving-count Del W (W + 1)
+    pub no-move : W < 2 → LeastBound moving-count Del W 0
