@@ -1,20 +1,23 @@
 -- Demand 2 of `add`: its writes do to the table what the push does to the tree, so the table shows the tree of the set with the word in it.
-use Prim.Native.Nat.{ℕ, suc, _+_, _*_, _^_, _<_, _≤_}
+use Prim.Native.Nat.{ℕ, zero, suc, pred, _+_, _*_, _^_, _<_, _≤_}
 use mathlib.Core.Path.{_≡_, refl, sym, ap, _∙_}
 use mathlib.Core.Bool.{Bool, true, false, _||_}
 use mathlib.Core.List.{List, [], _∷_, _++_}
+use mathlib.Core.List.{List·Memᴰ·head, List·Memᴰ·tail, Memᴰ·append-left, Memᴰ·append-right}
 use native.Mathlib.Omega.{arith}
 use lib.Dec.{ltb, leb, eqb}
 use lib.ListN.{length, set}
-use borrow.Author.Tests.{ltb-false, leb-false, le-ltb, eqb-false, ne-eqb}
+use borrow.Author.Tests.{ltb-false, leb-false, lt-ltb, le-ltb, eqb-false, ne-eqb}
 use Rattle.ordered.specs.Such.{if_then_else_, last-such, anything}
 use Rattle.ordered.specs.Dictionary.{insert, lookup}
-use Rattle.ordered.specs.Word.{Side, left, right}
-use Rattle.ordered.specs.Tree.{Tree, none, row, Entry, exists, listing, intact}
+use Rattle.ordered.specs.Word.{Side, left, right, side}
+use Rattle.ordered.specs.Said.{_∈_}
+use Rattle.ordered.specs.Tree.{Tree, none, row, damaged, Entry, part, exists, listing, intact}
 use Rattle.ordered.specs.Proper.{Fitting, Proper}
 use Rattle.ordered.specs.Way.{Step, Way, way, rows, joined, following, pushing}
 use Rattle.ordered.specs.Change.{Adding, adding, adding-by, ends-at, pushed, left-over, numberAt}
 use Rattle.ordered.specs.Grown.{linking as turned, linked as chained, shifted, pushed-tree, grown as grown-tree}
+use Rattle.ordered.proofs.Parts.{all-of-each, each-of-all, no-lookup}
 use Rattle.ordered.proofs.OneTree.{root-fits, proper-intact}
 use Rattle.ordered.proofs.Ways.{linked-again}
 use Rattle.ordered.proofs.Moves.{taken-by, shifted-takes, linked-append}
@@ -53,6 +56,25 @@ insert-length x (y ∷ ys) out = by-cases (ltb x y) (eqb x y) out (insert-length
     by-cases true b out rest = refl
     by-cases false true out rest = let never : _≡_ {A = ℕ} 0 1 = cc in omega arith
     by-cases false false out rest = ap suc (rest out)
+
+-- a word greater than all others is not among them
+pub greatest-absent : (x : ℕ) (S : List ℕ) → ((y : ℕ) → y ∈ S → y < x) → lookup x S ≡ false
+greatest-absent x S greatest = no-lookup x S (all-of-each S (λ y there. ne-eqb x y (λ same. omega (arith, greatest y there))))
+
+in-part : (s : Side) (l r : Tree) {y : ℕ} → y ∈ listing (part s l r) → y ∈ listing l ++ listing r
+in-part left l r there = Memᴰ·append-left (listing r) there
+in-part right l r there = Memᴰ·append-right (listing l) there
+
+-- An `add` of a word greater than all others pushes nothing: its way meets no key that is the word's or more.
+nothing-pushed :
+    (x m : ℕ) (t : Tree) → ((y : ℕ) → y ∈ listing t → y < x) → let w : Way = way (following x) m t in way pushing (w .bits) (w .end) .passed ≡ []
+unfolding way following listing
+nothing-pushed x zero t greatest = refl
+nothing-pushed x (suc m) none greatest = refl
+nothing-pushed x (suc m) damaged greatest = refl
+nothing-pushed x (suc m) (row i e l r) greatest =
+    rw (lt-ltb (e .key) x (greatest (e .key) (List·Memᴰ·head refl)))
+    (nothing-pushed x m (part (side m x) l r) (λ y there. greatest y (List·Memᴰ·tail (in-part (side m x) l r there))))
 
 -- what is shown, row by row
 module _ {h : Header} {table S : List ℕ} (H : Holding h table S) where
@@ -213,6 +235,11 @@ module _ (h : Header) (table S : List ℕ) (H : Holding h table S) (k : ℕ) whe
           (λ some. record { not-root = λ there e. omega arith }) places once-later moved-spelled
           (λ j below. row-elsewhere (h .count) hooked-table j (λ e. omega arith) last-row))
 
+    new-row-told : suc (h .count) ≤ capacity table → rowAt after-add (h .count) .entry .key ≡ left-over new-entry (push .passed) .key
+    new-row-told room =
+        ap (λ x. rowAt x (h .count) .entry .key) table-after
+        ∙ ap (λ r. r .entry .key) (row-written (h .count) (hooked-table room) (fits room) (last-row room))
+
   present-is : a .present ≡ ends-at k w
   unfolding adding
   present-is = by-cases (ends-at k w)
@@ -282,6 +309,21 @@ module _ (h : Header) (table S : List ℕ) (H : Holding h table S) (k : ℕ) whe
   outcome-so : addOutcome h table k ≡ outcome (leb (2 ^ h .width) k) (a .present) (eqb (h .count) (capacity table))
   unfolding addOutcome too-wide
   outcome-so = rw (H .right-header, adding-unbroken (h .width) t (undamaged H) k)
+
+  -- so the new row, which is the last one, takes a word greater than all others
+  module _ (small : leb (2 ^ h .width) k ≡ false) (not-full : eqb (h .count) (capacity table) ≡ false) (greatest : (y : ℕ) → y ∈ S → y < k) where
+    not-there : lookup k S ≡ false
+    not-there = greatest-absent k S greatest
+
+    done-so : addOutcome h table k ≡ outcome false false false
+    done-so = outcome-so ∙ cc (small, present-so small, not-there, not-full)
+
+    pub last-row-takes : let o : Outcome = addOutcome h table k in rowAt (o .table) (pred (o .reply .header .count)) .entry .key ≡ k
+    unfolding left-over
+    last-row-takes =
+        ap (λ o. rowAt (o .table) (pred (o .reply .header .count)) .entry .key) done-so
+        ∙ new-row-told (absent small not-there not-full) (room-left small not-there not-full)
+        ∙ ap (λ ss. left-over new-entry ss .key) (nothing-pushed k (h .width) t (rw (lists H) greatest))
 
   pub keeps-add : (buffer : List ℕ) → KeepsDictionary after (Add k) h table buffer S
   unfolding after expected kept-after changed numberOf keyOf

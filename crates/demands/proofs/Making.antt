@@ -1,19 +1,18 @@
 -- What the dictionary keeps after `new` and an `add` of each word of a set, in increasing order: that set. So the calls lead to a table that
--- holds it.
-use Prim.Native.Nat.{ℕ, suc, _+_, _^_, _≤_, _<_}
+-- holds it, and its last row has the greatest word.
+use Prim.Native.Nat.{ℕ, pred, _^_, _≤_, _<_}
 use mathlib.Core.Path.{_≡_, refl, sym, ap, subst, _∙_}
-use mathlib.Core.Bool.{true, false}
+use mathlib.Core.Bool.{false}
 use mathlib.Core.List.{List, [], _∷_, _++_, append-nil, append-assoc, List·Memᴰ·head, Memᴰ·append-left, Memᴰ·append-right}
 use native.Mathlib.Omega.{arith}
 use lib.Dec.{leb, eqb}
 use lib.ListN.{length, length-append}
 use borrow.Author.Tests.{lt-leb, ne-eqb}
-use Rattle.ordered.specs.Such.{if_then_else_}
-use Rattle.ordered.specs.Dictionary.{Increasing, insert, lookup}
+use Rattle.ordered.specs.Dictionary.{Increasing, insert}
 use Rattle.ordered.specs.Said.{_∈_}
 use Rattle.ordered.proofs.Lists.{increasing-parts}
-use Rattle.ordered.proofs.Parts.{all-of-each, none-all, no-lookup, insert-between}
-use Rattle.pretree.specs.Table.{capacity}
+use Rattle.ordered.proofs.Parts.{all-of-each, none-all, insert-between}
+use Rattle.pretree.specs.Table.{capacity, rowAt}
 use Rattle.pretree.specs.Reply.{wrong-width}
 use Rattle.pretree.specs.Whole.{newReply, newTable}
 use Rattle.pretree.specs.Call.{after}
@@ -21,9 +20,10 @@ use Rattle.pretree.proofs.Writing.{same-capacity}
 use Rattle.pretree.specs.declared.Call.the-variants.{New, Add}
 use Rattle.demands.specs.Expected.{Kept, expected, changed, kept-after, kept-at-end}
 use Rattle.demands.specs.Program.{State, state-after, end-state}
-use Rattle.demands.specs.Demand2.{HoldsKept, empty-state, empty-kept}
+use Rattle.demands.specs.Demand2.{HoldsKept, Sequence, empty-state, empty-kept}
 use Rattle.demands.specs.Reached.{SetOf, asked, adds, making}
 use Rattle.demands.proofs.Owned.{new-kept}
+use Rattle.demands.proofs.Added.{greatest-absent, last-row-takes}
 use Rattle.demands.proofs.Demand2.{empty-holds, sequences}
 
 -- the words S, with no buffer
@@ -37,12 +37,9 @@ module _ (W room x : ℕ) (S : List ℕ) (narrow : x < 2 ^ W) (greatest : (y : �
   put-last =
       ap (insert x) (sym (append-nil S)) ∙ insert-between x S [] [] (all-of-each S greatest) none-all
 
-  not-there : lookup x S ≡ false
-  not-there = no-lookup x S (all-of-each S (λ y there. ne-eqb x y (λ same. omega (arith, greatest y there))))
-
   pub add-keeps : kept-after (Add x) room (words W S) ≡ words W (S ++ (x ∷ []))
   unfolding kept-after expected changed
-  add-keeps = rw (lt-leb (2 ^ W) x narrow, not-there, ne-eqb (length S) room (λ same. omega arith), put-last)
+  add-keeps = rw (lt-leb (2 ^ W) x narrow, greatest-absent x S greatest, ne-eqb (length S) room (λ same. omega arith), put-last)
 
 pub adds-keep :
     (W room : ℕ) (S xs : List ℕ) → Increasing (S ++ xs) → ((x : ℕ) → x ∈ S ++ xs → x < 2 ^ W) → length (S ++ xs) ≤ room
@@ -62,14 +59,64 @@ unfolding after newReply
 new-empties W s right = rw right
 
 module _ (W : ℕ) (S : List ℕ) (s : State) (right : wrong-width W ≡ false) (set : SetOf W S) (room : length S ≤ capacity (s .table)) where
-  pub made : HoldsKept (end-state after (making W S) s) (words W S)
+  abbrev empty : State
+  empty = empty-state W (newTable (s .table) W)
+
+  room-after-new : capacity (empty .table) ≡ capacity (s .table)
+  room-after-new = same-capacity (newTable (s .table) W) (s .table) (new-kept (s .table) W .same-length)
+
+  abbrev added : State
+  added = end-state after (adds S) empty
+
+  all-added : Sequence after (adds S) empty (empty-kept W)
+  all-added = sequences (adds S) empty (empty-kept W) (empty-holds W (newTable (s .table) W) right)
+
+  as-added : end-state after (making W S) s ≡ added
   unfolding end-state
+  as-added = ap (end-state after (adds S)) (new-empties W s right)
+
+  pub made : HoldsKept (end-state after (making W S) s) (words W S)
   made =
-      let empty : State = empty-state W (newTable (s .table) W) in
-      let same-room : capacity (newTable (s .table) W) ≡ capacity (s .table) =
-      same-capacity (newTable (s .table) W) (s .table) (new-kept (s .table) W .same-length) in
-      let e = sequences (adds S) empty (empty-kept W) (empty-holds W (newTable (s .table) W) right) in
       let all : kept-at-end (adds S) (capacity (empty .table)) (empty-kept W) ≡ words W S =
-      adds-keep W (capacity (empty .table)) [] S (set .increasing) (set .below) (omega arith) in
-      subst (λ t. HoldsKept (end-state after (adds S) t) (words W S)) (sym (new-empties W s right))
-      (subst (HoldsKept (end-state after (adds S) empty)) all (e .at-end))
+      adds-keep W (capacity (empty .table)) [] S (set .increasing) (set .below) (omega (arith, room-after-new)) in
+      rw as-added (subst (HoldsKept added) all (all-added .at-end))
+
+  pub same-room : capacity (end-state after (making W S) s .table) ≡ capacity (s .table)
+  same-room = rw as-added (same-capacity (added .table) (empty .table) (all-added .same-length) ∙ room-after-new)
+
+adds-both : (S xs : List ℕ) (s : State) → end-state after (adds (S ++ xs)) s ≡ end-state after (adds xs) (end-state after (adds S) s)
+unfolding end-state adds
+adds-both [] xs s = refl
+adds-both (x ∷ S) xs s = adds-both S xs (state-after after (asked (Add x)) s)
+
+-- the key of the last row
+abbrev pub last-key : State → ℕ
+last-key s = rowAt (s .table) (pred (s .header .count)) .entry .key
+
+-- the words are added in increasing order, so the last row has the greatest
+module _ (W : ℕ) (S : List ℕ) (x : ℕ) (s : State) (right : wrong-width W ≡ false) (set : SetOf W (S ++ (x ∷ [])))
+    (room : length (S ++ (x ∷ [])) ≤ capacity (s .table))
+  where
+    others : SetOf W S
+    others =
+        record {
+          increasing = increasing-parts S (x ∷ []) (set .increasing) .0;
+          below = λ y there. set .below y (Memᴰ·append-left (x ∷ []) there);
+        }
+
+    abbrev before-last : State
+    before-last = end-state after (making W S) s
+
+    pub greatest-last : last-key (end-state after (making W (S ++ (x ∷ []))) s) ≡ x
+    unfolding end-state adds after
+    greatest-last =
+        let fewer : length S < capacity (s .table) = omega (arith, length-append S (x ∷ [])) in
+        let here = made W S s right others (omega arith) in
+        let small : leb (2 ^ before-last .header .width) x ≡ false =
+        rw (here .width) (lt-leb (2 ^ W) x (set .below x (Memᴰ·append-right S (List·Memᴰ·head refl)))) in
+        let not-full : eqb (before-last .header .count) (capacity (before-last .table)) ≡ false =
+        ne-eqb (before-last .header .count) (capacity (before-last .table)) (λ same.
+        omega (arith, here .held .holds .number, same-room W S s right others (omega arith))) in
+        ap last-key (adds-both S (x ∷ []) (state-after after (asked (New W)) s))
+        ∙ last-row-takes (before-last .header) (before-last .table) S (here .held) x small not-full
+        (λ y there. increasing-parts S (x ∷ []) (set .increasing) .2 y x there (List·Memᴰ·head refl))

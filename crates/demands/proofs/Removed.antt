@@ -149,6 +149,10 @@ module _ (h : Header) (table S : List ℕ) (H : Holding h table S) (k : ℕ) whe
     hole-out : hole ∈ numbers new-tree → ⊥
     hole-out there = omega (arith, once-later hole, chained-often later (stretch .end) hole, in-often there, in-often (hole-told .inside))
 
+    -- the hole is not the root, where rows are left
+    hole-later : (numberAt new-tree ≡ 0) × (exists new-tree ≡ true) → hole ≡ 0 → ⊥
+    hole-later first e = hole-out (Memᴰ·cast (e ∙ sym (first .0)) (root-in new-tree unlinked-spelled (first .1)))
+
     still-there : (j : ℕ) → j ∈ numbers t → (j ≡ hole → ⊥) → j ∈ numbers new-tree
     still-there j there apart =
         often-in j (numbers new-tree)
@@ -311,9 +315,6 @@ module _ (h : Header) (table S : List ℕ) (H : Holding h table S) (k : ℕ) whe
         long = row-length hole (rowAt unlinked last) unlinked ∙ unlinked-long
 
         -- what the move leaves
-        hole-later : (numberAt new-tree ≡ 0) × (exists new-tree ≡ true) → hole ≡ 0 → ⊥
-        hole-later first e = hole-out (Memᴰ·cast (e ∙ sym (first .0)) (root-in new-tree unlinked-spelled (first .1)))
-
         moved-rows : (numberAt new-tree ≡ 0) × (exists new-tree ≡ true) → LastMoved (rowAt unlinked) (rowAt (withRow last cleared relinked)) hole last parent (p .turn) new-tree
         moved-rows first =
             record {
@@ -410,6 +411,19 @@ module _ (h : Header) (table S : List ℕ) (H : Holding h table S) (k : ℕ) whe
 
   present-so : leb (2 ^ h .width) k ≡ false → e .present ≡ lookup k S
   present-so small = erasing-present (h .width) k 0 0 t (narrow h k small) (proper H) ∙ ap (lookup k) (lists H)
+
+  -- a move takes three rows: the root, the hole and the last row
+  pub three-rows : leb (2 ^ h .width) k ≡ false → lookup k S ≡ true → (e .hole ≡ last → ⊥) → 3 ≤ h .count
+  three-rows small there apart =
+      let present : ends-at k w ≡ true = sym present-is ∙ present-so small ∙ there in
+      let differ : hole ≡ last → ⊥ = λ same. apart (hole-same present ∙ same) in
+      let some : last ≡ 0 → ⊥ = λ e. omega (arith, hole-told present .in-use, one-row present) in
+      omega (
+        arith,
+        hole-told present .in-use,
+        one-row present,
+        hole-later present (new-first present small there, new-there present small there some),
+      )
 
   abbrev moves : Bool
   moves = not (eqb (e .hole) last)

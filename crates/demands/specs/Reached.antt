@@ -6,6 +6,7 @@ use Rattle.ordered.specs.Dictionary.{Increasing}
 use Rattle.ordered.specs.Said.{_∈_}
 use lib.ListN.{length}
 use Rattle.pretree.specs.declared.Header.{Header}
+use Rattle.pretree.specs.declared.Reply.{Reply}
 use Rattle.pretree.specs.Table.{capacity}
 use Rattle.pretree.specs.declared.Call.{Call}
 use Rattle.pretree.specs.declared.Call.the-variants.{New, Add, Del, Has, Next, Prev, First, Last}
@@ -23,6 +24,10 @@ chain (suc m) p = p * 2 ^ suc m ∷ chain m (p * 2 + 1)
 -- Document 01's B is the case W = 3.
 unfoldable pub parted-chain : ℕ → List ℕ
 parted-chain W = 0 ∷ 1 ∷ (chain (W - 2) 1 ++ (2 ^ (W - 1) ∷ []))
+
+-- 0, 1, and the 2^W − 2^(W−j) for j from 1 to W: one row on the left of the root, and a chain down to depth W on its right
+unfoldable pub forked-chain : ℕ → List ℕ
+forked-chain W = 0 ∷ 1 ∷ chain (W - 1) 1
 
 -- a set of words of the width W
 pub record SetOf (W : ℕ) (S : List ℕ) : Type 0 where
@@ -55,44 +60,56 @@ adds (x ∷ xs) = asked (Add x) ∷ adds xs
 abbrev pub making : ℕ → List ℕ → List Asked
 making W S = asked (New W) ∷ adds S
 
+-- the two counts of a reply
+abbrev pub rows-read : Reply → ℕ
+rows-read r = r .rows
+
+abbrev pub moving-count : Reply → ℕ
+moving-count r = r .moved
+
 module _ (program : Program) where
   -- Calls lead there: after `new` W and an `add` of each word of S, in any state whose table has room for them, the table holds S, and there
-  -- the call c reads n rows.
-  pub record ReadAfterAdds (W : ℕ) (S : List ℕ) (c : Call) (n : ℕ) (s : State) : Type 0 where
+  -- the call c reports n by the count.
+  pub record ReadAfterAdds (count : Reply → ℕ) (W : ℕ) (S : List ℕ) (c : Call) (n : ℕ) (s : State) : Type 0 where
     pub width : end-state program (making W S) s .header .width ≡ W
     pub held : Holding (end-state program (making W S) s .header) (end-state program (making W S) s .table) S
-    pub reads : (buffer : List ℕ) → outcome program (record { call = c; buffer = buffer }) (end-state program (making W S) s) .reply .rows ≡ n
+    pub reads : (buffer : List ℕ) → count (outcome program (record { call = c; buffer = buffer }) (end-state program (making W S) s) .reply) ≡ n
 
-  abbrev pub ReadOnce : ℕ → List ℕ → Call → ℕ → Type 0
-  ReadOnce W S c n = (s : State) → length S ≤ capacity (s .table) → ReadAfterAdds W S c n s
+  abbrev pub ReadOnce : (Reply → ℕ) → ℕ → List ℕ → Call → ℕ → Type 0
+  ReadOnce count W S c n = (s : State) → length S ≤ capacity (s .table) → ReadAfterAdds count W S c n s
 
   -- at every width that a header may have
   pub record ReachedByCalls (W : ℕ) : Type 0 where
-    pub has-reads : ReadOnce W (chain W 0) (Has (2 ^ W - 1)) (W + 1)
-    pub add-reads : ReadOnce W (chain W 0) (Add (2 ^ W - 1)) (W + 1)
-    pub del-reads : ReadOnce W (chain W 0) (Del (2 ^ W - 1)) (W + 1)
-    pub first-reads : ReadOnce W (chain W 0) First 1
-    pub last-reads : ReadOnce W (chain W 0) Last (W + 1)
-    pub next-reads : 3 ≤ W → ReadOnce W (parted-chain W) (Next (2 ^ (W - 1) - 1)) (W + 2)
-    pub prev-reads : 3 ≤ W → ReadOnce W (parted-chain W) (Prev (2 ^ (W - 1))) (W + 2)
+    pub has-reads : ReadOnce rows-read W (chain W 0) (Has (2 ^ W - 1)) (W + 1)
+    pub add-reads : ReadOnce rows-read W (chain W 0) (Add (2 ^ W - 1)) (W + 1)
+    pub del-reads : ReadOnce rows-read W (chain W 0) (Del (2 ^ W - 1)) (W + 1)
+    pub first-reads : ReadOnce rows-read W (chain W 0) First 1
+    pub last-reads : ReadOnce rows-read W (chain W 0) Last (W + 1)
+    pub next-reads : 3 ≤ W → ReadOnce rows-read W (parted-chain W) (Next (2 ^ (W - 1) - 1)) (W + 2)
+    pub prev-reads : 3 ≤ W → ReadOnce rows-read W (parted-chain W) (Prev (2 ^ (W - 1))) (W + 2)
+    -- Added in increasing order, the greatest word, at depth W, has the last row. The hole that 1 leaves is its own row, so the last row moves.
+    pub del-moves : 2 ≤ W → ReadOnce moving-count W (forked-chain W) (Del 1) (W + 1)
 
-  -- n bounds the rows that a kind of call reads at the width W, in tables that hold a set
-  abbrev pub Bounds : (ℕ → Call) → ℕ → ℕ → Type 0
-  Bounds call W n =
-      (k : ℕ) (h : Header) (table buffer S : List ℕ) → Holding h table S → h .width ≡ W → program (call k) h table buffer .reply .rows ≤ n
+  -- n bounds a count that a kind of call reports at the width W, in tables that hold a set
+  abbrev pub Bounds : (Reply → ℕ) → (ℕ → Call) → ℕ → ℕ → Type 0
+  Bounds count call W n =
+      (k : ℕ) (h : Header) (table buffer S : List ℕ) → Holding h table S → h .width ≡ W → count (program (call k) h table buffer .reply) ≤ n
 
   -- m is such a bound, and no number below m is one
-  pub record LeastBound (call : ℕ → Call) (W m : ℕ) : Type 0 where
-    pub bounds : Bounds call W m
-    pub no-lower : (n : ℕ) → Bounds call W n → m ≤ n
+  pub record LeastBound (count : Reply → ℕ) (call : ℕ → Call) (W m : ℕ) : Type 0 where
+    pub bounds : Bounds count call W m
+    pub no-lower : (n : ℕ) → Bounds count call W n → m ≤ n
 
-  -- "Finding, adding, first and last read at most W+1 rows, next and previous at most W+2. An erase reads at most W+1 [..]. For each W from 3
-  -- to 32 some set makes a next and some set a previous read W+2." `first` reads the root alone.
+  -- "Finding, adding, first and last read at most W+1 rows, next and previous at most W+2. An erase reads at most W+1, with at most W+1 more
+  -- for the move. For each W from 3 to 32 some set makes a next and some set a previous read W+2." `first` reads the root alone. No row moves
+  -- at the width 1, where a set has two words at most: a move takes three rows.
   pub record LeastBounds (W : ℕ) : Type 0 where
-    pub has-bound : LeastBound Has W (W + 1)
-    pub add-bound : LeastBound Add W (W + 1)
-    pub del-bound : LeastBound Del W (W + 1)
-    pub first-bound : LeastBound (λ k. First) W 1
-    pub last-bound : LeastBound (λ k. Last) W (W + 1)
-    pub next-bound : 3 ≤ W → LeastBound Next W (W + 2)
-    pub prev-bound : 3 ≤ W → LeastBound Prev W (W + 2)
+    pub has-bound : LeastBound rows-read Has W (W + 1)
+    pub add-bound : LeastBound rows-read Add W (W + 1)
+    pub del-bound : LeastBound rows-read Del W (W + 1)
+    pub first-bound : LeastBound rows-read (λ k. First) W 1
+    pub last-bound : LeastBound rows-read (λ k. Last) W (W + 1)
+    pub next-bound : 3 ≤ W → LeastBound rows-read Next W (W + 2)
+    pub prev-bound : 3 ≤ W → LeastBound rows-read Prev W (W + 2)
+    pub move-bound : 2 ≤ W → LeastBound moving-count Del W (W + 1)
+    pub no-move : W < 2 → LeastBound moving-count Del W 0
