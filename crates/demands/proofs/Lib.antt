@@ -22,5 +22,6 @@ pub mod Demand2
 pub mod History
 pub mod Making
 pub mod Reached
+pub mod LeastBounds
 pub mod ShutOut
 pub mod Lines
