@@ -7,6 +7,7 @@ pub mod SoundIs
 pub mod Whether
 pub mod Owned
 pub mod Refusals
+pub mod Contracts
 pub mod Written
 pub mod SecondWay
 pub mod RowsRead

@@ -34,7 +34,7 @@ use Rattle.pretree.specs.declared.Call.{Call}
 use Rattle.pretree.specs.declared.Call.the-variants.{New, Add, Del, Has, Next, Prev, Gap, First, Last, Audit}
 use Rattle.pretree.specs.Call.{After, after}
 use Rattle.demands.specs.Refusals.{waysOf, Wrong-width, Wrong-header, Too-wide, Damage as Damage-on, EndsAt, for-each, GivenWhen, Given}
-use Rattle.demands.specs.Refusals.{Refusal, Untouched, SameFrom, numberAfter, Refusals, OneOutcome}
+use Rattle.demands.specs.Refusals.{Refusal, Untouched, SameFrom, numberAfter, Refusals}
 use Rattle.demands.proofs.SoundIs.{sound-is}
 use Rattle.demands.proofs.Owned.{same-all, new-kept, add-kept, del-kept, list-kept}
 use Rattle.demands.proofs.Whether.{fails, holds, never, both-tested, either-tested, not-tested, less-tested, at-most-tested, equal-tested}
@@ -425,6 +425,3 @@ refusals c h table buffer =
       past-the-rows = kept h table buffer c .0;
       past-the-listing = kept h table buffer c .1;
     }
-
-pub one-outcome : OneOutcome
-one-outcome c h table buffer a b allowed allowed′ = allowed ∙ sym allowed′

@@ -135,11 +135,3 @@ pub record Refusals (c : Call) (h : Header) (table buffer : List ℕ) : Type 0 w
   pub past-the-rows : SameFrom (3 * capacity table) table (after c h table buffer .table)
   -- "`list` [..] leaves the rest of the buffer"
   pub past-the-listing : SameFrom (h .count) buffer (after c h table buffer .buffer)
-
--- what the contract of a call allows: it is an equality, reply, table and buffer at once
-abbrev pub Allowed : Call → Header → List ℕ → List ℕ → After → Type 0
-Allowed c h table buffer a = a ≡ after c h table buffer
-
--- "show that any two outcomes it allows are equal". (For the comparison of two captures, `one-part` of crate `capture`.)
-abbrev pub OneOutcome : Type 0
-OneOutcome = (c : Call) (h : Header) (table buffer : List ℕ) (a b : After) → Allowed c h table buffer a → Allowed c h table buffer b → a ≡ b
