@@ -24,4 +24,6 @@ pub mod Making
 pub mod Reached
 pub mod LeastBounds
 pub mod ShutOut
+pub mod Contracts
+pub mod Demands
 pub mod Lines

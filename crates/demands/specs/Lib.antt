@@ -16,4 +16,6 @@ pub mod Demand2
 pub mod History
 pub mod Reached
 pub mod ShutOut
+pub mod Contracts
+pub mod Demands
 pub mod Lines
