@@ -5,7 +5,6 @@ use mathlib.Core.Path.{_≡_, refl, sym, ap, subst, _∙_}
 use mathlib.Core.Logic.{_⊎_, inl, inr}
 use mathlib.Core.Bool.{Bool, true, false, not, _&&_, _||_, or-false, and-assoc, false≢true}
 use mathlib.Core.List.{List, [], _∷_}
-
 use native.Mathlib.Omega.{arith}
 use lib.Dec.{ltb, leb, eqb}
 use lib.Pow.{pow-pos}
@@ -17,6 +16,7 @@ use Rattle.ordered.specs.Tree.{Tree, none, row, damaged, Entry, exists}
 use Rattle.ordered.specs.Way.{Way, way, joined, broken, isDamaged, following, pushing, down}
 use Rattle.ordered.specs.Reading.{brokenIn, keyAt}
 use Rattle.ordered.specs.Change.{Erasing, adding-by, adding, erasing-by, erasing, isThere, ends-at, numberAt, entryAt}
+use Rattle.ordered.proofs.Answers.{is-there, adding-finds, erasing-finds}
 use Rattle.ordered.proofs.Pruned.{Pruned, empty, kept, cut, Gone, Added, Erased}
 use Rattle.ordered.proofs.Pruned.{has-tested, next-tested, prev-tested, gap-tested, first-tested, last-tested, way-tested, adding-tested, erasing-tested}
 use Rattle.pretree.specs.declared.Header.{Header}
@@ -31,7 +31,7 @@ use Rattle.demands.specs.Damage.{DamageRead, wayOf, EndsAt, Present, Abs
 use Rattle.demands.specs.Refusals.{waysOf}
 use Rattle.demands.proofs.Unfolding.{NoDamage, hanging, picked, judged-so, no-link}
 use Rattle.demands.proofs.Meeting.{below-width, longer}
-use Rattle.demands.proofs.Whether.{fails, holds, never, both-tested, either-tested, not-tested, equal-tested}
+use Rattle.demands.proofs.Whether.{fails, holds, never, both-tested, either-tested, not-tested, equal-tested, said-so, else-tested}
 
 -- the least key that may stand below the row with this key
 abbrev least : Perhaps ℕ → ℕ
@@ -196,15 +196,6 @@ module _ (h : Header) (table : List ℕ) where
       at-zero zero = refl
       at-zero (suc m) = refl
 
--- the same test of what is said in other words
-said-so : {A B : Type 0} {b : Bool} → (A → B) → (B → A) → Whether A b → Whether B b
-said-so there back w = (λ e. there (w .0 e), λ x. w .1 (back x))
-
--- "or", where the second test counts only if the first fails
-else-tested : {A B : Type 0} (a b : Bool) → Whether A a → (a ≡ false → Whether B b) → Whether (A ⊎ B) (a || b)
-else-tested true b v w = holds (inl (v .0 refl))
-else-tested false b v w = either-tested false b v (w refl)
-
 alone : (w : Way) → brokenIn (w ∷ []) ≡ broken w
 unfolding brokenIn
 alone w = or-false (broken w)
@@ -213,44 +204,12 @@ alone w = or-false (broken w)
 ends-tested : (k : ℕ) (w : Way) → Whether ((p : ℕ) × EndsAt k p w) (ends-at k w)
 ends-tested k w = at-end (w .end)
   where
-    is-there : (b : Bool) (x : ℕ) → isThere (if b then such x else no-such) ≡ b
-    is-there true x = refl
-    is-there false x = refl
-
     at-end : (t : Tree) → Whether ((p : ℕ) × ((l : Tree) × (r : Tree) × (t ≡ row p (record { key = k }) l r))) (isThere (only-if (eqb k) (keyAt t)))
     at-end none = never (λ there. false≢true (ap exists (there .1 .2)))
     at-end damaged = never (λ there. false≢true (sym (ap isDamaged (there .1 .2))))
     at-end (row p e l r) =
         rw (is-there (eqb k (e .key)) (e .key))
         (said-so (λ same. (p, (l, r, rw same))) (λ there. sym (ap (λ t. entryAt t .key) (there .1 .2))) (equal-tested k (e .key)))
-
-adding-present : (m k : ℕ) (t : Tree) → adding m k t .present ≡ ends-at k (way (following k) m t)
-unfolding adding
-adding-present m k t = either (ends-at k w)
-  where
-    w : Way
-    w = way (following k) m t
-
-    push : Way
-    push = way pushing (w .bits) (w .end)
-
-    either : (b : Bool) → adding-by k w push (joined w push) b .present ≡ b
-    either true = refl
-    either false = refl
-
-erasing-present : (m k : ℕ) (t : Tree) → erasing m k t .present ≡ ends-at k (way (following k) m t)
-unfolding erasing
-erasing-present m k t = either (ends-at k w)
-  where
-    w : Way
-    w = way (following k) m t
-
-    stretch : Way
-    stretch = way (down left) (w .bits) (w .end)
-
-    either : (b : Bool) → erasing-by w stretch (joined w stretch) b .present ≡ b
-    either true = refl
-    either false = refl
 
 -- what the calls test
 unfoldable pub damageTest : Call → Header → List ℕ → Bool
@@ -330,7 +289,7 @@ module _ (h : Header) (table : List ℕ) where
 
       moves-tested : broken (e′ .rows-read) ≡ false → Whether (Moves k h table) (e′ .present && not (eqb (e′ .hole) last))
       moves-tested whole =
-          rw (← erased .same-presence whole, ← erased .same-hole whole, erasing-present (h .width) k (named h table))
+          rw (← erased .same-presence whole, ← erased .same-hole whole, erasing-finds (h .width) k (named h table))
           (said-so (λ m. record { present = m .0; hole-elsewhere = m .1 }) (λ m. (m .present, m .hole-elsewhere))
           (both-tested (ends-at k w) (not (eqb (number h table (e .hole)) last)) (ends-tested k w)
           (not-tested (eqb (number h table (e .hole)) last) (equal-tested (number h table (e .hole)) last))))
@@ -357,5 +316,5 @@ damage-tested Call.List h table = never (λ no. no)
 pub absent-tested : (k : ℕ) (h : Header) (table : List ℕ) → broken (adding (h .width) k (shown h table) .rows-read) ≡ false
     → Whether (Absent k h table) (not (adding (h .width) k (shown h table) .present))
 absent-tested k h table whole =
-    rw (← adding-tested (h .width) (shown-pruned h table) k .same-presence whole, adding-present (h .width) k (named h table))
+    rw (← adding-tested (h .width) (shown-pruned h table) k .same-presence whole, adding-finds (h .width) k (named h table))
     (not-tested (ends-at k (wayOf k h table)) (ends-tested k (wayOf k h table)))

@@ -1,7 +1,7 @@
 -- A tree with damage beside the whole tree of which it is cut: where a row of the whole one is bad, the other has damage; each row above is
 -- kept, by a number of its own. A call breaks over the cut tree exactly where it reads a bad row of the whole one.
 use Prim.Native.Nat.{ℕ, zero, suc}
-use mathlib.Core.Path.{_≡_, refl, sym}
+use mathlib.Core.Path.{_≡_, refl, sym, ap}
 use mathlib.Core.Logic.{inl, inr}
 use mathlib.Core.Bool.{Bool, true, false, false≢true, _&&_}
 use mathlib.Core.List.{List, [], _∷_, _++_, map, List·Memᴰ·head, List·Memᴰ·tail, List·Memᴰ·not-nil}
@@ -11,9 +11,9 @@ use Rattle.ordered.specs.Such.{if_then_else_, Perhaps, no-such, such, fi
 use Rattle.ordered.specs.Word.{Side, left, right, isSide}
 use Rattle.ordered.specs.Said.{_∈_, Whether}
 use Rattle.ordered.specs.Tree.{Tree, none, row, damaged, Entry, exists}
-use Rattle.ordered.specs.Way.{Step, Way, Rule, Turn, stop, to, way, endNumber, readOn, broken, passing, turning, joined, following, passing-equal, pushing, down, staying}
+use Rattle.ordered.specs.Way.{Step, Way, Rule, Turn, stop, to, way, endNumber, readOn, isDamaged, broken, passing, turning, joined, following, passing-equal, pushing, down, staying}
 use Rattle.ordered.specs.Reading.{Reading, readOf, brokenIn, keyAt, to-its-end, has, right-left-aside, right-child, next-by, next, left-left-aside, prev-by, prev, first, last, gap-by, gap}
-use Rattle.ordered.specs.Change.{Adding, Erasing, isThere, ends-at, numberAt, adding-by, adding, erasing-by, erasing}
+use Rattle.ordered.specs.Change.{Adding, Erasing, ends-at, numberAt, adding-by, adding, erasing-by, erasing}
 use Rattle.ordered.proofs.Ways.{step, Blind, following-blind, passing-equal-blind, pushing-blind, staying-blind, down-blind}
 
 -- some number of the list is bad
@@ -47,13 +47,12 @@ module _ (Bad : ℕ → Type 0) (σ : ℕ → ℕ) where
     neither : Found no-such no-such
     both : {s s′ : Step} → Beside s s′ → Found (such s) (such s′)
 
-  -- two ways by one rule: the one reads a bad row and the other breaks, or both pass the same rows and end alike, at none or at a row
+  -- two ways by one rule: the one reads a bad row and the other breaks, or both pass the same rows and end alike
   data Goes : Way → Way → Type 0 where
     breaks : {w : Way} {ss : List Step} {m : ℕ} → Some Bad (readOn w) → Goes w (way-to ss m damaged)
-    to-none : {ss ss′ : List Step} {m : ℕ} → Steps ss ss′ → Goes (way-to ss m none) (way-to ss′ m none)
-    to-row :
-        {ss ss′ : List Step} {m i : ℕ} {e : Entry} {l r l′ r′ : Tree} → Steps ss ss′ → ¬ Bad i → Pruned l l′ → Pruned r r′
-        → Goes (way-to ss m (row i e l r)) (way-to ss′ m (row (σ i) e l′ r′))
+    ends :
+        {ss ss′ : List Step} {m : ℕ} {t t′ : Tree} → Steps ss ss′ → Pruned t t′ → isDamaged t′ ≡ false
+        → Goes (way-to ss m t) (way-to ss′ m t′)
 
   -- the ways of a call, one after another; after one that breaks nothing is asked of the rest
   data Ways : List Way → List Way → Type 0 where
@@ -187,22 +186,37 @@ module _ {Bad : ℕ → Type 0} {σ : ℕ → ℕ} where
   passing-goes : {s s′ : Step} {w v : Way} → Beside Bad σ s s′ → Goes Bad σ w v → Goes Bad σ (passing s w) (passing s′ v)
   unfolding readOn
   passing-goes b (breaks (i, there, bad)) = breaks (i, List·Memᴰ·tail there, bad)
-  passing-goes b (to-none ss) = to-none (steps b ss)
-  passing-goes b (to-row ss good lefts rights) = to-row (steps b ss) good lefts rights
+  passing-goes b (ends ss end whole) = ends (steps b ss) end whole
+
+  -- where the other tree has no damage, the two are alike
+  end-good : {t t′ : Tree} → Pruned Bad σ t t′ → isDamaged t′ ≡ false → ¬ Some Bad (endNumber t)
+  end-good empty whole = none-empty
+  end-good (kept good lefts rights) whole = none-cons good none-empty
+  end-good (cut bad) whole = absurd (false≢true (sym whole))
+
+  key-same : {t t′ : Tree} → Pruned Bad σ t t′ → isDamaged t′ ≡ false → keyAt t′ ≡ keyAt t
+  key-same empty whole = refl
+  key-same (kept good lefts rights) whole = refl
+  key-same (cut bad) whole = absurd (false≢true (sym whole))
+
+  number-same : {t t′ : Tree} → σ 0 ≡ 0 → Pruned Bad σ t t′ → isDamaged t′ ≡ false → numberAt t′ ≡ σ (numberAt t)
+  number-same zero-same empty whole = sym zero-same
+  number-same zero-same (kept good lefts rights) whole = refl
+  number-same zero-same (cut bad) whole = absurd (false≢true (sym whole))
 
   -- one law for the ways by every rule
   goes : (f : Rule) → Blind f → (m : ℕ) {t t′ : Tree} → Pruned Bad σ t t′ → Goes Bad σ (way f m t) (way f m t′)
   unfolding way
-  goes f blind zero empty = to-none no-steps
-  goes f blind zero (kept good lefts rights) = to-row no-steps good lefts rights
+  goes f blind zero empty = ends no-steps empty refl
+  goes f blind zero (kept good lefts rights) = ends no-steps (kept good lefts rights) refl
   goes f blind zero (cut {i} {e} {l} {r} bad) = breaks (i, start-read f zero (row i e l r) (List·Memᴰ·head refl), bad)
-  goes f blind (suc m) empty = to-none no-steps
+  goes f blind (suc m) empty = ends no-steps empty refl
   goes f blind (suc m) (kept {i} {e} {l} {r} {l′} {r′} good lefts rights) =
       rw (blind m e l r l′ r′ (exists-same lefts) (exists-same rights)) (turned (f m e l r) (goes f blind m lefts) (goes f blind m rights))
     where
       turned : (c : Turn) → Goes Bad σ (way f m l) (way f m l′) → Goes Bad σ (way f m r) (way f m r′)
           → Goes Bad σ (turning (way f m) m i e l r c) (turning (way f m) m (σ i) e l′ r′ c)
-      turned stop on-left on-right = to-row no-steps good lefts rights
+      turned stop on-left on-right = ends no-steps (kept good lefts rights) refl
       turned (to left) on-left on-right = passing-goes (beside good lefts rights) on-left
       turned (to right) on-left on-right = passing-goes (beside good lefts rights) on-right
   goes f blind (suc m) (cut {i} {e} {l} {r} bad) = breaks (i, start-read f (suc m) (row i e l r) (List·Memᴰ·head refl), bad)
@@ -216,9 +230,7 @@ module _ {Bad : ℕ → Type 0} {σ : ℕ → ℕ} where
   goes-on : (g : Rule) → Blind g → {w v : Way} → Goes Bad σ w v → Goes Bad σ (onward g w) (onward g v)
   unfolding joined
   goes-on g blind (breaks {w} {m} bad) = rw (at-damage g m) (breaks (bad-onward g w bad))
-  goes-on g blind (to-none {m} ss) = joined-goes m none none ss (goes g blind m empty)
-  goes-on g blind (to-row {m} {i} {e} {l} {r} {l′} {r′} ss good lefts rights) =
-      joined-goes m (row i e l r) (row (σ i) e l′ r′) ss (goes g blind m (kept good lefts rights))
+  goes-on g blind (ends {m} {t} {t′} ss end whole) = joined-goes m t t′ ss (goes g blind m end)
 
   none-bad : {ss ss′ : List Step} {is : List ℕ} → Steps Bad σ ss ss′ → ¬ Some Bad is → ¬ Some Bad (map (λ s. s .at) ss ++ is)
   none-bad no-steps rest = rest
@@ -229,9 +241,8 @@ module _ {Bad : ℕ → Type 0} {σ : ℕ → ℕ} where
   ways-tested no-ways = (λ e. absurd (false≢true e), λ some. absurd (none-empty some))
   ways-tested (cut-off {ws} (i, there, bad)) = (λ e. (i, Memᴰ·append-left (readOf ws) there, bad), λ some. refl)
   ways-tested (one-way {ws} (breaks (i, there, bad)) rest) = (λ e. (i, Memᴰ·append-left (readOf ws) there, bad), λ some. refl)
-  ways-tested (one-way {w} {ws} (to-none ss) rest) = past (readOn w) (readOf ws) (none-bad ss none-empty) (ways-tested rest)
-  ways-tested (one-way {w} {ws} (to-row {i} ss good lefts rights) rest) =
-      past (readOn w) (readOf ws) (none-bad ss (none-cons good none-empty)) (ways-tested rest)
+  ways-tested (one-way {w} {ws} (ends ss end whole) rest) =
+      rw whole (past (readOn w) (readOf ws) (none-bad ss (end-good end whole)) (ways-tested rest))
 
   alone : {w v : Way} → Goes Bad σ w v → Exactly Bad (w ∷ []) (v ∷ [])
   alone g = ways-tested (one-way g no-ways)
@@ -260,7 +271,7 @@ module _ {Bad : ℕ → Type 0} {σ : ℕ → ℕ} where
   next-by-goes : {w v : Way} {p p′ : Perhaps Step} → Goes Bad σ w v → (q : Perhaps ℕ) → Found Bad σ p p′
       → Ways Bad σ (next-by w q p .ways) (next-by v q p′ .ways)
   next-by-goes g (such x) f = one-way g no-ways
-  next-by-goes g no-such neither = one-way g (one-way (to-none no-steps) no-ways)
+  next-by-goes g no-such neither = one-way g (one-way (ends no-steps empty refl) no-ways)
   next-by-goes g no-such (both (beside {m} good lefts rights)) = one-way g (one-way (goes staying staying-blind m rights) no-ways)
 
   prev-by-goes : {w v : Way} {p p′ : Perhaps Step} → Goes Bad σ w v → (q : Perhaps ℕ) → Found Bad σ p p′
@@ -303,9 +314,8 @@ module _ {Bad : ℕ → Type 0} {σ : ℕ → ℕ} where
 
           by-way : {w v : Way} → Goes Bad σ w v → Ways Bad σ (next-from k w .ways) (next-from k v .ways)
           by-way (breaks {w} {ss} {m} bad) = off bad (next-led k w) (next-led k (way-to ss m damaged))
-          by-way (to-none ss) = next-by-goes (to-none ss) no-such (sought ss)
-          by-way (to-row {e} ss good lefts rights) =
-              next-by-goes (to-row ss good lefts rights) (if ltb k (e .key) then such (e .key) else no-such) (sought ss)
+          by-way (ends {t} ss end whole) =
+              rw (key-same end whole) (next-by-goes (ends ss end whole) (only-if (ltb k) (keyAt t)) (sought ss))
 
       prev-goes : Ways Bad σ (prev m k t .ways) (prev m k t′ .ways)
       unfolding prev
@@ -319,9 +329,8 @@ module _ {Bad : ℕ → Type 0} {σ : ℕ → ℕ} where
 
           by-way : {w v : Way} → Goes Bad σ w v → Ways Bad σ (prev-from k w .ways) (prev-from k v .ways)
           by-way (breaks {w} {ss} {m} bad) = off bad (prev-led k w) (prev-led k (way-to ss m damaged))
-          by-way (to-none ss) = prev-by-goes (to-none ss) no-such (sought ss)
-          by-way (to-row {e} ss good lefts rights) =
-              prev-by-goes (to-row ss good lefts rights) (if ltb (e .key) k then such (e .key) else no-such) (sought ss)
+          by-way (ends {t} ss end whole) =
+              rw (key-same end whole) (prev-by-goes (ends ss end whole) (only-if (λ x. ltb x k) (keyAt t)) (sought ss))
 
       gap-goes : Ways Bad σ (gap m k t .ways) (gap m k t′ .ways)
       unfolding gap has prev
@@ -330,13 +339,13 @@ module _ {Bad : ℕ → Type 0} {σ : ℕ → ℕ} where
           by-way : {w v : Way} → Goes Bad σ w v → Ways Bad σ (prev-from k w .ways) (prev-from k v .ways)
               → Ways Bad σ (gap-from k w (next m k t) .ways) (gap-from k v (next m k t′) .ways)
           by-way (breaks {w} {ss} {m = n} bad) before = off bad (gap-led k w (next m k t)) (gap-led k (way-to ss n damaged) (next m k t′))
-          by-way (to-none ss) before = ways-append before next-goes
-          by-way {w} {v} (to-row {e} ss good lefts rights) before = either (eqb k (e .key))
+          by-way {w} {v} (ends ss end whole) before =
+              either (only-if (eqb k) (keyAt (w .end))) (only-if (eqb k) (keyAt (v .end))) (ap (only-if (eqb k)) (key-same end whole))
             where
-              either : (b : Bool) → let q : Perhaps ℕ = if b then such (e .key) else no-such in
-                  Ways Bad σ (gap-by k (prev-from k w) (next m k t) q (w ∷ []) .ways) (gap-by k (prev-from k v) (next m k t′) q (v ∷ []) .ways)
-              either true = one-way (to-row ss good lefts rights) no-ways
-              either false = ways-append before next-goes
+              either : (q q′ : Perhaps ℕ) → q′ ≡ q
+                  → Ways Bad σ (gap-by k (prev-from k w) (next m k t) q (w ∷ []) .ways) (gap-by k (prev-from k v) (next m k t′) q′ (v ∷ []) .ways)
+              either (such x) q′ same = rw same (one-way (ends ss end whole) no-ways)
+              either no-such q′ same = rw same (ways-append before next-goes)
 
       pub has-tested : Exactly Bad (has m k t .ways) (has m k t′ .ways)
       unfolding has
@@ -360,17 +369,14 @@ module _ {Bad : ℕ → Type 0} {σ : ℕ → ℕ} where
             where
               either : (b : Bool)
                   → Added Bad (adding-from k w b) (adding-by k (way-to ss m damaged) (way-to [] m damaged) (way-to (ss ++ []) m damaged) false)
-              either true = record { exactly = alone (breaks bad); same-presence = λ whole. absurd (false≢true (sym whole)) }
+              either true = record { exactly = alone (breaks bad); same-presence = λ unbroken. absurd (false≢true (sym unbroken)) }
               either false =
-                  record { exactly = alone (breaks (bad-onward pushing w bad)); same-presence = λ whole. absurd (false≢true (sym whole)) }
-          by-way (to-none ss) = record { exactly = alone (goes-on pushing pushing-blind (to-none ss)); same-presence = λ whole. refl }
-          by-way {w} {v} (to-row {e} ss good lefts rights) = either (eqb k (e .key))
+                  record { exactly = alone (breaks (bad-onward pushing w bad)); same-presence = λ unbroken. absurd (false≢true (sym unbroken)) }
+          by-way {w} {v} (ends ss end whole) = rw (key-same end whole) (either (ends-at k w))
             where
-              either : (b : Bool) → let there : Bool = isThere (if b then such (e .key) else no-such) in
-                  Added Bad (adding-from k w there) (adding-from k v there)
-              either true = record { exactly = alone (to-row ss good lefts rights); same-presence = λ whole. refl }
-              either false =
-                  record { exactly = alone (goes-on pushing pushing-blind (to-row ss good lefts rights)); same-presence = λ whole. refl }
+              either : (b : Bool) → Added Bad (adding-from k w b) (adding-from k v b)
+              either true = record { exactly = alone (ends ss end whole); same-presence = λ unbroken. refl }
+              either false = record { exactly = alone (goes-on pushing pushing-blind (ends ss end whole)); same-presence = λ unbroken. refl }
 
       -- a tree that is none has the number 0
       module _ (zero-same : σ 0 ≡ 0) where
@@ -379,12 +385,15 @@ module _ {Bad : ℕ → Type 0} {σ : ℕ → ℕ} where
         gone (breaks {w} {ss} {m} bad) =
             record {
               exactly = alone (breaks bad);
-              same-key = λ whole. absurd (false≢true (sym whole));
-              same-number = λ whole. absurd (false≢true (sym whole));
+              same-key = λ unbroken. absurd (false≢true (sym unbroken));
+              same-number = λ unbroken. absurd (false≢true (sym unbroken));
             }
-        gone (to-none ss) = record { exactly = alone (to-none ss); same-key = λ whole. refl; same-number = λ whole. zero-same }
-        gone (to-row ss good lefts rights) =
-            record { exactly = alone (to-row ss good lefts rights); same-key = λ whole. refl; same-number = λ whole. refl }
+        gone (ends ss end whole) =
+            record {
+              exactly = alone (ends ss end whole);
+              same-key = λ unbroken. sym (key-same end whole);
+              same-number = λ unbroken. sym (number-same zero-same end whole);
+            }
 
         pub way-tested : Gone Bad σ (way (following k) m t) (way (following k) m t′)
         way-tested = gone the-way
@@ -400,23 +409,21 @@ module _ {Bad : ℕ → Type 0} {σ : ℕ → ℕ} where
                 broke bad =
                     record {
                       exactly = alone (breaks bad);
-                      same-presence = λ whole. absurd (false≢true (sym whole));
-                      same-hole = λ whole. absurd (false≢true (sym whole));
+                      same-presence = λ unbroken. absurd (false≢true (sym unbroken));
+                      same-hole = λ unbroken. absurd (false≢true (sym unbroken));
                     }
 
                 either : (b : Bool) → Erased Bad σ (erasing-from w b) (erasing-from (way-to ss m damaged) false)
                 either true = broke (bad-onward (down left) w bad)
                 either false = broke bad
-            by-way (to-none ss) = record { exactly = alone (to-none ss); same-presence = λ whole. refl; same-hole = λ whole. zero-same }
-            by-way {w} {v} (to-row {m} {e} ss good lefts rights) = either (eqb k (e .key))
+            by-way {w} {v} (ends {m} ss end whole) = rw (key-same end whole) (either (ends-at k w))
               where
-                either : (b : Bool) → let there : Bool = isThere (if b then such (e .key) else no-such) in
-                    Erased Bad σ (erasing-from w there) (erasing-from v there)
+                either : (b : Bool) → Erased Bad σ (erasing-from w b) (erasing-from v b)
                 either true =
                     record {
-                      exactly = alone (goes-on (down left) (down-blind left) (to-row ss good lefts rights));
-                      same-presence = λ whole. refl;
-                      same-hole = gone (goes (down left) (down-blind left) m (kept good lefts rights)) .same-number;
+                      exactly = alone (goes-on (down left) (down-blind left) (ends ss end whole));
+                      same-presence = λ unbroken. refl;
+                      same-hole = gone (goes (down left) (down-blind left) m end) .same-number;
                     }
                 either false =
-                    record { exactly = alone (to-row ss good lefts rights); same-presence = λ whole. refl; same-hole = λ whole. zero-same }
+                    record { exactly = alone (ends ss end whole); same-presence = λ unbroken. refl; same-hole = λ unbroken. zero-same }
