@@ -3,7 +3,7 @@
 use Prim.Native.Nat.{ℕ, zero, suc, _+_, _*_, _-_, _/_, _%_, _^_, _<_, _≤_, pred}
 use mathlib.Core.Path.{_≡_, refl, sym, ap, subst, _∙_}
 use mathlib.Core.Logic.{_⊎_, inl, inr}
-use mathlib.Core.Bool.{Bool, true, false, not, _&&_, _||_, or-false, and-assoc, false≢true}
+use mathlib.Core.Bool.{Bool, true, false, not, _&&_, _||_, or-false, and-assoc, and-false, false≢true}
 use mathlib.Core.List.{List, [], _∷_}
 use native.Mathlib.Omega.{arith}
 use lib.Dec.{ltb, leb, eqb}
@@ -12,10 +12,12 @@ use borrow.Author.Tests.{ltb-false, leb-false, eqb-false, ltb-true, leb-true, eq
 use Rattle.ordered.specs.Such.{if_then_else_, Perhaps, no-such, such, only-if}
 use Rattle.ordered.specs.Word.{Side, left, right, sideOf, bitOf}
 use Rattle.ordered.specs.Said.{Whether}
-use Rattle.ordered.specs.Tree.{Tree, none, row, damaged, Entry, exists}
+use Rattle.ordered.specs.Tree.{Tree, none, row, damaged, Entry, exists, intact}
 use Rattle.ordered.specs.Way.{Way, way, joined, broken, isDamaged, following, pushing, down}
 use Rattle.ordered.specs.Reading.{brokenIn, keyAt}
 use Rattle.ordered.specs.Change.{Erasing, adding-by, adding, erasing-by, erasing, isThere, ends-at, numberAt, entryAt}
+use Rattle.ordered.proofs.Ways.{unbroken}
+use Rattle.ordered.proofs.Unbroken.{has-unbroken, next-unbroken, prev-unbroken, first-unbroken, last-unbroken, gap-unbroken, adding-unbroken, erasing-unbroken}
 use Rattle.ordered.proofs.Answers.{is-there, adding-finds, erasing-finds}
 use Rattle.ordered.proofs.Pruned.{Pruned, empty, kept, cut, Gone, Added, Erased}
 use Rattle.ordered.proofs.Pruned.{has-tested, next-tested, prev-tested, gap-tested, first-tested, last-tested, way-tested, adding-tested, erasing-tested}
@@ -27,9 +29,11 @@ use Rattle.pretree.specs.Del.{secondWay, astray}
 use Rattle.pretree.specs.declared.Call.{Call}
 use Rattle.pretree.specs.declared.Call.the-variants.{New, Add, Del, Has, Next, Prev, Gap, First, Last, Audit}
 use Rattle.demands.specs.Damage.{named-from, named, Visit, root, below, visit, visitAt, Damaged, link-too-far, key-too-wide, key-not-greater, key-off-the-path, link-at-depth-W}
-use Rattle.demands.specs.Damage.{DamageRead, wayOf, EndsAt, Present, Absent, Moves, last-key, FindsLast, SecondDamage, DamageOn}
+use Rattle.demands.specs.Damage.{DamageRead, wayOf, EndsAt, Present, Absent, Moves, last-key, FindsLast, SecondDamage, DamageOn, NoneInSets}
 use Rattle.demands.specs.Refusals.{waysOf}
 use Rattle.demands.proofs.Unfolding.{NoDamage, hanging, picked, judged-so, no-link}
+use Rattle.demands.proofs.SoundIs.{tree-intact}
+use Rattle.demands.proofs.SecondWay.{second-way-ends}
 use Rattle.demands.proofs.Meeting.{below-width, longer}
 use Rattle.demands.proofs.Whether.{fails, holds, never, both-tested, either-tested, not-tested, equal-tested, said-so, else-tested}
 
@@ -266,8 +270,7 @@ module _ (h : Header) (table : List ℕ) where
   unfolding DamageOn damageTest
   del-tested k =
       else-tested (broken (e′ .rows-read)) (e′ .present && (not (eqb (e′ .hole) last) && (broken second || astray h table second)))
-      (rw alone at (erased .exactly))
-      (λ whole. both-tested′ whole)
+      (rw alone at (erased .exactly)) moved
     where
       e : Erasing
       e = erasing (h .width) k (named h table)
@@ -294,8 +297,11 @@ module _ (h : Header) (table : List ℕ) where
           (both-tested (ends-at k w) (not (eqb (number h table (e .hole)) last)) (ends-tested k w)
           (not-tested (eqb (number h table (e .hole)) last) (equal-tested (number h table (e .hole)) last))))
 
-      both-tested′ : broken (e′ .rows-read) ≡ false → Whether (Moves k h table × SecondDamage h table) (e′ .present && (not (eqb (e′ .hole) last) && (broken second || astray h table second)))
-      both-tested′ whole = rw (← and-assoc) (both-tested (e′ .present && not (eqb (e′ .hole) last)) (broken second || astray h table second) (moves-tested whole) second-tested)
+      moved : broken (e′ .rows-read) ≡ false
+          → Whether (Moves k h table × SecondDamage h table) (e′ .present && (not (eqb (e′ .hole) last) && (broken second || astray h table second)))
+      moved whole =
+          rw (← and-assoc)
+          (both-tested (e′ .present && not (eqb (e′ .hole) last)) (broken second || astray h table second) (moves-tested whole) second-tested)
 
 -- The theorem: document 01's damage is met exactly where the calls test for it.
 pub damage-tested : (c : Call) (h : Header) (table : List ℕ) → Whether (DamageOn c h table) (damageTest c h table)
@@ -318,3 +324,42 @@ pub absent-tested : (k : ℕ) (h : Header) (table : List ℕ) → broken (adding
 absent-tested k h table whole =
     rw (← adding-tested (h .width) (shown-pruned h table) k .same-presence whole, adding-finds (h .width) k (named h table))
     (not-tested (ends-at k (wayOf k h table)) (ends-tested k (wayOf k h table)))
+
+-- on a table that holds a set no test is met, and the second way finds the last row
+pub none-in-sets : NoneInSets
+unfolding damageTest waysOf secondWay way shown
+none-in-sets c h table S held = fails (rw (passes c) at (damage-tested c h table))
+  where
+    whole : intact (shown h table) ≡ true
+    whole = tree-intact h table S (held .increasing) (held .below) (held .tree)
+
+    passes : (c : Call) → damageTest c h table ≡ false
+    passes (New w) = refl
+    passes (Add k) = alone (adding (h .width) k (shown h table) .rows-read) ∙ adding-unbroken (h .width) (shown h table) whole k
+    passes (Del k) =
+        rw (erasing-unbroken (h .width) (shown h table) whole k, second-unbroken)
+        (by-count (eqb (h .count) 0) refl (erasing (h .width) k (shown h table) .present) (erasing-finds (h .width) k (shown h table)))
+      where
+        second-unbroken : broken (secondWay h table) ≡ false
+        second-unbroken = unbroken (following (last-key h table)) (h .width) (shown h table) whole
+
+        none-there : (m : ℕ) → ends-at k (way (following k) m none) ≡ false
+        none-there zero = refl
+        none-there (suc m) = refl
+
+        moves : Bool
+        moves = not (eqb (erasing (h .width) k (shown h table) .hole) (pred (h .count)))
+
+        by-count : (empty-table : Bool) → eqb (h .count) 0 ≡ empty-table → (there : Bool) → there ≡ ends-at k (way (following k) (h .width) (shown h table))
+            → (there && (moves && astray h table (secondWay h table))) ≡ false
+        by-count true e there finds = rw (finds, shown, e, none-there)
+        by-count false e there finds =
+            rw (second-way-ends h table S held (omega (arith, eqb-false (h .count) 0 e)), and-false, and-false)
+    passes (Has k) = has-unbroken (h .width) (shown h table) whole k
+    passes (Next k) = next-unbroken (h .width) (shown h table) whole k
+    passes (Prev k) = prev-unbroken (h .width) (shown h table) whole k
+    passes (Gap k) = gap-unbroken (h .width) (shown h table) whole k
+    passes First = first-unbroken (h .width) (shown h table) whole
+    passes Last = last-unbroken (h .width) (shown h table) whole
+    passes Audit = refl
+    passes Call.List = refl

@@ -21,6 +21,7 @@ use Rattle.pretree.specs.Table.{rowAt, link}
 use Rattle.pretree.specs.Unfold.{linked}
 use Rattle.pretree.specs.declared.Call.{Call}
 use Rattle.pretree.specs.declared.Call.the-variants.{New, Add, Del, Has, Next, Prev, Gap, First, Last, Audit}
+use Rattle.demands.specs.SoundIs.{HoldsSet}
 
 -- The tree that the links name, with m bits left, from row i down. A row that is named twice stands in it twice, so each has for its number the
 -- place where it stands: the root is at 1, and below place p are 2p on the left and 2p + 1 on the right.
@@ -126,3 +127,7 @@ DamageOn First h table = DamageRead h table (first (h .width) (named h table) .w
 DamageOn Last h table = DamageRead h table (last (h .width) (named h table) .ways)
 DamageOn Audit h table = ⊥
 DamageOn Call.List h table = ⊥
+
+-- A table that holds a set has none.
+abbrev pub NoneInSets : Type 0
+NoneInSets = (c : Call) (h : Header) (table S : List ℕ) → HoldsSet h table S → ¬ DamageOn c h table

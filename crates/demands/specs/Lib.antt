@@ -6,9 +6,9 @@
 -- 3. For every sequence of calls from an empty set in one table: the rows reported are those of the way over the PreTree of the present
 --    words, with the bounds W+1, W+2 and 2W+4; rows past the count are zeros.
 pub mod Numbers
-pub mod Damage
 pub mod Refusals
 pub mod SoundIs
+pub mod Damage
 pub mod RowsRead
 pub mod Reached
 pub mod Expected
