@@ -5,6 +5,7 @@ pub mod Meeting
 pub mod Tested
 pub mod SoundIs
 pub mod Whether
+pub mod Damage
 pub mod Owned
 pub mod Refusals
 pub mod Written

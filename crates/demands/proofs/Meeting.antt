@@ -79,17 +79,21 @@ times-met i d path t = times-often i (met-in d path t) ∙ ap (often i) (numbers
 
 -- a row with the bits of its path is below 2 ^ W
 module _ (W d m path k : ℕ) (whole : d + m ≡ W) (short : path < 2 ^ d) (on-path : k / 2 ^ m ≡ path) where
+  pub below-width : k < 2 ^ W
+  below-width =
+      let high : k / 2 ^ m < 2 ^ d = rw on-path short in
+      rw (← whole, pow-add) (div-lt-iff-lt-mul (pow-pos m) .0 high)
+
   in-place : (i : ℕ) → InPlace W (the-row d path i k)
   in-place i =
-      let high : k / 2 ^ m < 2 ^ d = rw on-path short in
       let left-over : W - d ≡ m = omega arith in
       record {
-        below = rw (← whole, pow-add) (div-lt-iff-lt-mul (pow-pos m) .0 high);
+        below = below-width;
         bits = rw left-over on-path;
         shallow = omega arith;
       }
 
-longer : (d path : ℕ) (s : Side) → path < 2 ^ d → path * 2 + bitOf s < 2 ^ suc d
+pub longer : (d path : ℕ) (s : Side) → path < 2 ^ d → path * 2 + bitOf s < 2 ^ suc d
 longer d path left h = omega arith
 longer d path right h = omega arith
 

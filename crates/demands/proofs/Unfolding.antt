@@ -83,16 +83,28 @@ pub record Opened (rows : ℕ → Row) (n m path low i : ℕ) : Type 0 where
 
 module _ (rows : ℕ → Row) (n : ℕ) where
   module _ (m path low i : ℕ) where
-    abbrev picking : Bool → Tree
+    abbrev pub picking : Bool → Tree
     picking b = if b then row-with rows i (hanging rows n m path i) else damaged
 
-    picked : (b : Bool) → judged n m path low i (rows i) ≡ b → unfolded rows n m path low i ≡ picking b
+    pub picked : (b : Bool) → judged n m path low i (rows i) ≡ b → unfolded rows n m path low i ≡ picking b
     unfolding unfolded
     picked b e = once m ∙ ap picking e
       where
         once : (m : ℕ) → unfolded rows n m path low i ≡ (if judged n m path low i (rows i) then row-with rows i (hanging rows n m path i) else damaged)
         once zero = refl
         once (suc m) = refl
+
+    -- a row that is judged so is no damage
+    pub judged-so : judged n m path low i (rows i) ≡ true → NoDamage rows n m path low i
+    judged-so e =
+        let a = both (ltb i n) (leb low (key rows i) && (eqb (key rows i / 2 ^ m) path && ends-there m (rows i))) e in
+        let b = both (leb low (key rows i)) (eqb (key rows i / 2 ^ m) path && ends-there m (rows i)) (a .1) in
+        let c = both (eqb (key rows i / 2 ^ m) path) (ends-there m (rows i)) (b .1) in
+        record {
+          in-use = ltb-true i n (a .0);
+          key-fits = record { not-below = leb-true low (key rows i) (b .0); on-path = eqb-true (key rows i / 2 ^ m) path (c .0) };
+          links-end = c .1;
+        }
 
     -- a row that is no damage is shown,
     pub shown-row : NoDamage rows n m path low i → unfolded rows n m path low i ≡ row-with rows i (hanging rows n m path i)
@@ -117,17 +129,9 @@ module _ (rows : ℕ → Row) (n : ℕ) where
       where
         by-cases : (b : Bool) → judged n m path low i (rows i) ≡ b → Opened rows n m path low i
         by-cases true e =
-            let a = both (ltb i n) (leb low (key rows i) && (eqb (key rows i / 2 ^ m) path && ends-there m (rows i))) e in
-            let b = both (leb low (key rows i)) (eqb (key rows i / 2 ^ m) path && ends-there m (rows i)) (a .1) in
-            let c = both (eqb (key rows i / 2 ^ m) path) (ends-there m (rows i)) (b .1) in
             let halves = both (intact (hanging rows n m path i left)) (intact (hanging rows n m path i right)) (sym (ap intact (picked true e)) ∙ h) in
             record {
-              no-damage =
-                  record {
-                    in-use = ltb-true i n (a .0);
-                    key-fits = record { not-below = leb-true low (key rows i) (b .0); on-path = eqb-true (key rows i / 2 ^ m) path (c .0) };
-                    links-end = c .1;
-                  };
+              no-damage = judged-so e;
               shows = picked true e;
               parts = elim [ left ↦ halves .0 | right ↦ halves .1 ];
             }

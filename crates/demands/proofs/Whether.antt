@@ -17,6 +17,10 @@ module _ {A : Type 0} where
   pub never : ¬ A → Whether A false
   never no-a = (λ e. absurd (false≢true e), λ a. absurd (no-a a))
 
+-- the same test of what is said in other words
+pub said-so : {A B : Type 0} {b : Bool} → (A → B) → (B → A) → Whether A b → Whether B b
+said-so there back w = (λ e. there (w .0 e), λ x. w .1 (back x))
+
 pub both-tested : {A B : Type 0} (a b : Bool) → Whether A a → Whether B b → Whether (A × B) (a && b)
 both-tested true true v w = holds (v .0 refl, w .0 refl)
 both-tested true false v w = never (λ x. fails w (x .1))
@@ -26,6 +30,11 @@ pub either-tested : {A B : Type 0} (a b : Bool) → Whether A a → Whether B b 
 either-tested true b v w = holds (inl (v .0 refl))
 either-tested false true v w = holds (inr (w .0 refl))
 either-tested false false v w = never (elim [ inl x ↦ fails v x | inr y ↦ fails w y ])
+
+-- "or", where the second test counts only if the first fails
+pub else-tested : {A B : Type 0} (a b : Bool) → Whether A a → (a ≡ false → Whether B b) → Whether (A ⊎ B) (a || b)
+else-tested true b v w = holds (inl (v .0 refl))
+else-tested false b v w = either-tested false b v (w refl)
 
 pub not-tested : {A : Type 0} (a : Bool) → Whether A a → Whether (¬ A) (not a)
 not-tested true w = never (λ no-a. no-a (w .0 refl))

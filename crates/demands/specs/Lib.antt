@@ -10,6 +10,7 @@ pub mod Numbers
 pub mod Refusals
 pub mod Zeros
 pub mod SoundIs
+pub mod Damage
 pub mod RowsRead
 pub mod Expected
 pub mod Demand2

@@ -226,9 +226,27 @@ prev-by-answer w (such p) h = at-step (p .below) (p .at) (p .entry) (p .left-par
         last-key m path (suc (e .key)) (row j g a b) (h left) ∙ sym (filled (row j g a b) refl refl (such (e .key)))
     at-step m i e damaged r right h = let broken : true ≡ false = part-sound (step m i e damaged r right) h left in cc
 
-is-there : (b : Bool) (k : ℕ) → isThere (if b then such k else no-such) ≡ b
+pub is-there : (b : Bool) (k : ℕ) → isThere (if b then such k else no-such) ≡ b
 is-there true k = refl
 is-there false k = refl
+
+-- `add` and `del` find the word where its way ends at it
+pub adding-finds : (m k : ℕ) (t : Tree) → adding m k t .present ≡ ends-at k (way (following k) m t)
+unfolding adding
+adding-finds m k t = either (way (following k) m t) (ends-at k (way (following k) m t))
+  where
+    either : (w : Way) (b : Bool) → let push : Way = way pushing (w .bits) (w .end) in adding-by k w push (joined w push) b .present ≡ b
+    either w true = refl
+    either w false = refl
+
+pub erasing-finds : (m k : ℕ) (t : Tree) → erasing m k t .present ≡ ends-at k (way (following k) m t)
+unfolding erasing
+erasing-finds m k t = either (way (following k) m t) (ends-at k (way (following k) m t))
+  where
+    either : (w : Way) (b : Bool)
+        → let stretch : Way = way (down left) (w .bits) (w .end) in erasing-by w stretch (joined w stretch) b .present ≡ b
+    either w true = refl
+    either w false = refl
 
 module _ (m k path low : ℕ) (t : Tree) (on : k / 2 ^ m ≡ path) (h : Proper m path low t) where
   -- "found if the way of k ends at k"
@@ -295,18 +313,7 @@ module _ (m k path low : ℕ) (t : Tree) (on : k / 2 ^ m ≡ path) (h : Proper m
   ends-there = ap isThere has-answer ∙ is-there (lookup k (listing t)) k
 
   pub adding-present : adding m k t .present ≡ lookup k (listing t)
-  unfolding adding
-  adding-present = either (way (following k) m t) (ends-at k (way (following k) m t)) ∙ ends-there
-    where
-      either : (w : Way) (b : Bool) → let push : Way = way pushing (w .bits) (w .end) in adding-by k w push (joined w push) b .present ≡ b
-      either w true = refl
-      either w false = refl
+  adding-present = adding-finds m k t ∙ ends-there
 
   pub erasing-present : erasing m k t .present ≡ lookup k (listing t)
-  unfolding erasing
-  erasing-present = either (way (following k) m t) (ends-at k (way (following k) m t)) ∙ ends-there
-    where
-      either : (w : Way) (b : Bool)
-          → let stretch : Way = way (down left) (w .bits) (w .end) in erasing-by w stretch (joined w stretch) b .present ≡ b
-      either w true = refl
-      either w false = refl
+  erasing-present = erasing-finds m k t ∙ ends-there

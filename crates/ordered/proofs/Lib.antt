@@ -12,5 +12,6 @@ pub mod Answers
 pub mod Unbroken
 pub mod Rows
 pub mod Unnumbered
+pub mod Pruned
 pub mod Moves
 pub mod Grown

@@ -14,7 +14,7 @@ use Rattle.ordered.specs.Way.{Step, Way, Rule, Turn, stop, to, way, rows
 use Rattle.ordered.specs.Reading.{Reading, rowsOf, keyAt, to-its-end, has, right-left-aside, next-by, next, left-left-aside, prev-by, prev, first, last, gap-by, gap}
 use Rattle.ordered.specs.Change.{Adding, Erasing, ends-at, adding-by, adding, erasing-by, erasing}
 use Rattle.ordered.proofs.OneTree.{one-tree}
-use Rattle.ordered.proofs.Ways.{step}
+use Rattle.ordered.proofs.Ways.{step, Blind, following-blind, passing-equal-blind, pushing-blind, staying-blind, down-blind}
 
 -- a step, a way and a reading without row numbers
 abbrev bare-step : Step → Step
@@ -34,15 +34,17 @@ bare-ways (w ∷ ws) = bare w ∷ bare-ways ws
 abbrev bare-reading : Reading → Reading
 bare-reading r = record { ways = bare-ways (r .ways); answer = r .answer }
 
--- a rule that looks only at entries and at whether a part exists
-abbrev Blind : Rule → Type 0
-Blind f = (m : ℕ) (e : Entry) (l r : Tree) → f m e (unnumbered l) (unnumbered r) ≡ f m e l r
+exists-bare : (t : Tree) → exists (unnumbered t) ≡ exists t
+unfolding unnumbered
+exists-bare none = refl
+exists-bare (row i e l r) = refl
+exists-bare damaged = refl
 
 way-bare : (f : Rule) → Blind f → (m : ℕ) (t : Tree) → way f m (unnumbered t) ≡ bare (way f m t)
 unfolding way unnumbered
 way-bare f blind zero t = refl
 way-bare f blind (suc m) none = refl
-way-bare f blind (suc m) (row i e l r) = rw (blind m e l r) (turned (f m e l r) (way-bare f blind m l) (way-bare f blind m r))
+way-bare f blind (suc m) (row i e l r) = rw (blind m e l r (unnumbered l) (unnumbered r) (exists-bare l) (exists-bare r)) (turned (f m e l r) (way-bare f blind m l) (way-bare f blind m r))
   where
     turned : (c : Turn) → way f m (unnumbered l) ≡ bare (way f m l) → way f m (unnumbered r) ≡ bare (way f m r)
         → turning (way f m) m 0 e (unnumbered l) (unnumbered r) c ≡ bare (turning (way f m) m i e l r c)
@@ -50,12 +52,6 @@ way-bare f blind (suc m) (row i e l r) = rw (blind m e l r) (turned (f m e l r) 
     turned (to left) lefts rights = ap (passing (step m 0 e (unnumbered l) (unnumbered r) left)) lefts
     turned (to right) lefts rights = ap (passing (step m 0 e (unnumbered l) (unnumbered r) right)) rights
 way-bare f blind (suc m) damaged = refl
-
-exists-bare : (t : Tree) → exists (unnumbered t) ≡ exists t
-unfolding unnumbered
-exists-bare none = refl
-exists-bare (row i e l r) = refl
-exists-bare damaged = refl
 
 key-bare : (t : Tree) → keyAt (unnumbered t) ≡ keyAt t
 unfolding unnumbered
@@ -68,27 +64,6 @@ unfolding unnumbered
 end-bare none = refl
 end-bare (row i e l r) = refl
 end-bare damaged = refl
-
-following-blind : (k : ℕ) → Blind (following k)
-unfolding following
-following-blind k m e l r = refl
-
-passing-equal-blind : (k : ℕ) → Blind (passing-equal k)
-unfolding passing-equal
-passing-equal-blind k m e l r = refl
-
-pushing-blind : Blind pushing
-unfolding pushing
-pushing-blind m e l r = refl
-
-staying-blind : Blind staying
-unfolding staying
-staying-blind m e l r = refl
-
-down-blind : (s : Side) → Blind (down s)
-unfolding down
-down-blind left m e l r = rw (exists-bare l, exists-bare r)
-down-blind right m e l r = rw (exists-bare l, exists-bare r)
 
 length-bare : (ss : List Step) → length (bare-steps ss) ≡ length ss
 length-bare [] = refl

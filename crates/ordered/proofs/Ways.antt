@@ -6,9 +6,9 @@ use mathlib.Core.List.{List, [], _∷_, _++_, append-nil, append-assoc}
 use lib.Dec.{ltb, leb}
 use Rattle.ordered.specs.Such.{if_then_else_}
 use Rattle.ordered.specs.Word.{Side, left, right, bitOf, side}
-use Rattle.ordered.specs.Tree.{Tree, none, row, damaged, Entry, part, listing, intact}
+use Rattle.ordered.specs.Tree.{Tree, none, row, damaged, Entry, part, exists, listing, intact}
 use Rattle.ordered.specs.Proper.{Proper}
-use Rattle.ordered.specs.Way.{Step, Way, Rule, Turn, stop, to, way, ending, passing, turning, broken, isDamaged, following, passing-equal}
+use Rattle.ordered.specs.Way.{Step, Way, Rule, Turn, stop, to, way, ending, passing, turning, broken, isDamaged, following, passing-equal, pushing, down, staying}
 use Rattle.ordered.specs.Grown.{linking, linked}
 use Rattle.ordered.proofs.Parts.{All, none-all, one-all}
 
@@ -168,3 +168,28 @@ following-seeks k m e l r = refl
 pub passing-equal-seeks : (k : ℕ) → Seeks (passing-equal k) (λ x. leb x k) k
 unfolding passing-equal
 passing-equal-seeks k m e l r = refl
+
+-- every rule of ours looks only at entries and at whether a part exists, not at what stands there
+abbrev pub Blind : Rule → Type 0
+Blind f = (m : ℕ) (e : Entry) (l r l′ r′ : Tree) → exists l′ ≡ exists l → exists r′ ≡ exists r → f m e l′ r′ ≡ f m e l r
+
+pub following-blind : (k : ℕ) → Blind (following k)
+unfolding following
+following-blind k m e l r l′ r′ lefts rights = refl
+
+pub passing-equal-blind : (k : ℕ) → Blind (passing-equal k)
+unfolding passing-equal
+passing-equal-blind k m e l r l′ r′ lefts rights = refl
+
+pub pushing-blind : Blind pushing
+unfolding pushing
+pushing-blind m e l r l′ r′ lefts rights = refl
+
+pub staying-blind : Blind staying
+unfolding staying
+staying-blind m e l r l′ r′ lefts rights = refl
+
+pub down-blind : (s : Side) → Blind (down s)
+unfolding down
+down-blind left m e l r l′ r′ lefts rights = rw (lefts, rights)
+down-blind right m e l r l′ r′ lefts rights = rw (lefts, rights)

@@ -6,7 +6,7 @@ use lib.Dec.{ltb, leb, eqb}
 use Rattle.ordered.specs.Such.{if_then_else_, Perhaps, no-such, such, first-of, only-if, last-such}
 use Rattle.ordered.specs.Word.{Side, left, right, isSide}
 use Rattle.ordered.specs.Tree.{Tree, none, row, damaged, exists}
-use Rattle.ordered.specs.Way.{Way, Step, way, rows, broken, ending, following, passing-equal, down, staying}
+use Rattle.ordered.specs.Way.{Way, Step, way, rows, readOn, broken, ending, following, passing-equal, down, staying}
 
 -- the ways that were gone, and the word that was found, if there is such a word
 pub record Reading : Type 0 where
@@ -17,6 +17,11 @@ pub record Reading : Type 0 where
 unfoldable pub rowsOf : List Way → ℕ
 rowsOf [] = 0
 rowsOf (w ∷ ws) = rows w + rowsOf ws
+
+-- and their numbers
+unfoldable pub readOf : List Way → List ℕ
+readOf [] = []
+readOf (w ∷ ws) = readOn w ++ readOf ws
 
 -- damage on one of its ways
 unfoldable pub brokenIn : List Way → Bool

@@ -1,7 +1,7 @@
 -- A way: the rows that are read going down a tree, and where it ends. Each way of document 01 is this one with a rule of its own.
 use Prim.Native.Nat.{ℕ, zero, suc, _+_}
 use mathlib.Core.Bool.{Bool, true, false}
-use mathlib.Core.List.{List, [], _∷_, _++_}
+use mathlib.Core.List.{List, [], _∷_, _++_, map}
 use lib.Dec.{ltb, leb}
 use lib.ListN.{length}
 use Rattle.ordered.specs.Such.{if_then_else_}
@@ -32,6 +32,15 @@ endRows damaged = 0
 
 unfoldable pub rows : Way → ℕ
 rows w = length (w .passed) + endRows (w .end)
+
+-- and the numbers of these rows
+abbrev pub endNumber : Tree → List ℕ
+endNumber none = []
+endNumber (row i e l r) = i ∷ []
+endNumber damaged = []
+
+unfoldable pub readOn : Way → List ℕ
+readOn w = map (λ s. s .at) (w .passed) ++ endNumber (w .end)
 
 abbrev pub isDamaged : Tree → Bool
 isDamaged none = false

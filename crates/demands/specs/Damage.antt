@@ -1,0 +1,133 @@
+-- Damage on the ways of a call, in document 01's words and over the table itself: the rows that its links name, unjudged; what is damage at such
+-- a row; and the rows that a call reads. proofs/Damage.antt proves that it is met exactly where the calls test for it.
+-- Document 01: "Damage (4), for single-word calls, is exactly one of these: a link that the way follows is count or more; a row read has a key of
+-- 2^W or more, or not greater than that of the row it was reached from, or without the bits of the path to it; a row read at depth W has a link
+-- other than 0; the second way of `del` doesn't end at row count−1 with its key."
+use Prim.Native.Nat.{ℕ, zero, suc, _+_, _*_, _-_, _/_, _%_, _^_, _≤_, pred}
+use mathlib.Core.Path.{_≡_}
+use mathlib.Core.Logic.{_⊎_}
+use mathlib.Core.List.{List, [], _∷_}
+use lib.Dec.{leb, eqb}
+use Rattle.ordered.specs.Such.{if_then_else_, Perhaps, no-such, such}
+use Rattle.ordered.specs.Word.{Side, left, right, sideOf, bitOf}
+use Rattle.ordered.specs.Said.{_∈_}
+use Rattle.ordered.specs.Tree.{Tree, none, row}
+use Rattle.ordered.specs.Way.{Way, way, following}
+use Rattle.ordered.specs.Reading.{readOf, has, next, prev, gap, first, last}
+use Rattle.ordered.specs.Change.{adding, erasing}
+use Rattle.pretree.specs.declared.Header.{Header}
+use Rattle.pretree.specs.declared.Row.{Row}
+use Rattle.pretree.specs.Table.{rowAt, link}
+use Rattle.pretree.specs.Unfold.{linked}
+use Rattle.pretree.specs.declared.Call.{Call}
+use Rattle.pretree.specs.declared.Call.the-variants.{New, Add, Del, Has, Next, Prev, Gap, First, Last, Audit}
+use Rattle.demands.specs.SoundIs.{HoldsSet}
+
+-- The tree that the links name, with m bits left, from row i down. A row that is named twice stands in it twice, so each has for its number the
+-- place where it stands: the root is at 1, and below place p are 2p on the left and 2p + 1 on the right.
+unfoldable pub named-from : (ℕ → Row) → ℕ → ℕ → ℕ → Tree
+named-from rows zero p i = row p (record { key = rows i .entry .key }) none none
+named-from rows (suc m) p i =
+    let below : Side → Tree = λ s. linked (named-from rows m (p * 2 + bitOf s)) (link (rows i) s) in
+    row p (record { key = rows i .entry .key }) (below left) (below right)
+
+-- "The root is row 0 whenever the count is not 0"; "with a count of 0 every way is empty"
+unfoldable pub named : Header → List ℕ → Tree
+named h table = if eqb (h .count) 0 then none else named-from (rowAt table) (h .width) 1 0
+
+-- what stands at a place
+pub record Visit : Type 0 where
+  -- the row that the links name there, its depth, and the bits of the path to it as a number
+  pub at : ℕ
+  pub depth : ℕ
+  pub path : ℕ
+  -- the key of the row it was reached from; the root is reached from none
+  pub above : Perhaps ℕ
+
+abbrev pub root : Visit
+root = record { at = 0; depth = 0; path = 0; above = no-such }
+
+abbrev pub below : (ℕ → Row) → Visit → Side → Visit
+below rows v s =
+    record {
+      at = link (rows (v .at)) s;
+      depth = suc (v .depth);
+      path = v .path * 2 + bitOf s;
+      above = such (rows (v .at) .entry .key);
+    }
+
+-- at place p, which is at most m deep: above it is p / 2, and p is even on the left
+unfoldable pub visit : (ℕ → Row) → ℕ → ℕ → Visit
+visit rows zero p = root
+visit rows (suc m) p = if leb p 1 then root else below rows (visit rows m (p / 2)) (sideOf (p % 2))
+
+abbrev pub visitAt : Header → List ℕ → ℕ → Visit
+visitAt h table p = visit (rowAt table) (h .width) p
+
+pub data Damaged (h : Header) (table : List ℕ) (v : Visit) : Type 0 where
+  -- "a link that the way follows is count or more"
+  link-too-far : h .count ≤ v .at → Damaged h table v
+  -- "a row read has a key of 2^W or more,"
+  key-too-wide : 2 ^ h .width ≤ rowAt table (v .at) .entry .key → Damaged h table v
+  -- "or not greater than that of the row it was reached from,"
+  key-not-greater : {k : ℕ} → v .above ≡ such k → rowAt table (v .at) .entry .key ≤ k → Damaged h table v
+  -- "or without the bits of the path to it;"
+  key-off-the-path : ¬ (rowAt table (v .at) .entry .key / 2 ^ (h .width - v .depth) ≡ v .path) → Damaged h table v
+  -- "a row read at depth W has a link other than 0;"
+  link-at-depth-W : (s : Side) → v .depth ≡ h .width → ¬ (link (rowAt table (v .at)) s ≡ 0) → Damaged h table v
+
+-- a place that the ways read is damaged
+abbrev pub DamageRead : Header → List ℕ → List Way → Type 0
+DamageRead h table ways = (p : ℕ) × (p ∈ readOf ways) × Damaged h table (visitAt h table p)
+
+abbrev pub wayOf : ℕ → Header → List ℕ → Way
+wayOf k h table = way (following k) (h .width) (named h table)
+
+-- the way ends at a row with the key k, at place p
+abbrev pub EndsAt : ℕ → ℕ → Way → Type 0
+EndsAt k p w = (l : Tree) × (r : Tree) × (w .end ≡ row p (record { key = k }) l r)
+
+-- "found if the way of k ends at k"
+abbrev pub Present : ℕ → Header → List ℕ → Type 0
+Present k h table = (p : ℕ) × EndsAt k p (wayOf k h table)
+
+abbrev pub Absent : ℕ → Header → List ℕ → Type 0
+Absent k h table = ¬ Present k h table
+
+-- "If the hole is not row count−1, that last row is moved into it."
+pub record Moves (k : ℕ) (h : Header) (table : List ℕ) : Type 0 where
+  pub present : Present k h table
+  pub hole-elsewhere : ¬ (visitAt h table (erasing (h .width) k (named h table) .hole) .at ≡ pred (h .count))
+
+-- "a second way, the way of the last row's key"
+abbrev pub last-key : Header → List ℕ → ℕ
+last-key h table = rowAt table (pred (h .count)) .entry .key
+
+-- it ends "at row count−1 with its key"
+abbrev pub FindsLast : Header → List ℕ → Type 0
+FindsLast h table =
+    (p : ℕ) × EndsAt (last-key h table) p (wayOf (last-key h table) h table) × (visitAt h table p .at ≡ pred (h .count))
+
+-- "the second way of `del` doesn't end at row count−1 with its key", or reads a damaged row
+abbrev pub SecondDamage : Header → List ℕ → Type 0
+SecondDamage h table = DamageRead h table (wayOf (last-key h table) h table ∷ []) ⊎ ¬ FindsLast h table
+
+-- The damage that each call meets. "The rows that a push or an erase passes are on the way, also when the table is full."; "`gap` answers 4 if
+-- any way it needs would." (`audit` and `list` are for soundness, and `new` reads no row.)
+unfoldable pub DamageOn : Call → Header → List ℕ → Type 0
+DamageOn (New w) h table = ⊥
+DamageOn (Add k) h table = DamageRead h table (adding (h .width) k (named h table) .rows-read ∷ [])
+DamageOn (Del k) h table =
+    DamageRead h table (erasing (h .width) k (named h table) .rows-read ∷ []) ⊎ (Moves k h table × SecondDamage h table)
+DamageOn (Has k) h table = DamageRead h table (has (h .width) k (named h table) .ways)
+DamageOn (Next k) h table = DamageRead h table (next (h .width) k (named h table) .ways)
+DamageOn (Prev k) h table = DamageRead h table (prev (h .width) k (named h table) .ways)
+DamageOn (Gap k) h table = DamageRead h table (gap (h .width) k (named h table) .ways)
+DamageOn First h table = DamageRead h table (first (h .width) (named h table) .ways)
+DamageOn Last h table = DamageRead h table (last (h .width) (named h table) .ways)
+DamageOn Audit h table = ⊥
+DamageOn Call.List h table = ⊥
+
+-- A table that holds a set has none.
+abbrev pub NoneInSets : Type 0
+NoneInSets = (c : Call) (h : Header) (table S : List ℕ) → HoldsSet h table S → ¬ DamageOn c h table

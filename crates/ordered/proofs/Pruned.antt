@@ -1,0 +1,429 @@
+-- A tree with damage beside the whole tree of which it is cut: where a row of the whole one is bad, the other has damage; each row above is
+-- kept, by a number of its own. A call breaks over the cut tree exactly where it reads a bad row of the whole one.
+use Prim.Native.Nat.{ℕ, zero, suc}
+use mathlib.Core.Path.{_≡_, refl, sym, ap}
+use mathlib.Core.Logic.{inl, inr}
+use mathlib.Core.Bool.{Bool, true, false, false≢true, _&&_}
+use mathlib.Core.List.{List, [], _∷_, _++_, map, List·Memᴰ·head, List·Memᴰ·tail, List·Memᴰ·not-nil}
+use mathlib.Core.List.{Memᴰ·append-left, Memᴰ·append-right, List·Memᴰ·append-cases}
+use lib.Dec.{ltb, eqb}
+use Rattle.ordered.specs.Such.{if_then_else_, Perhaps, no-such, such, first-of, only-if, last-such}
+use Rattle.ordered.specs.Word.{Side, left, right, isSide}
+use Rattle.ordered.specs.Said.{_∈_, Whether}
+use Rattle.ordered.specs.Tree.{Tree, none, row, damaged, Entry, exists}
+use Rattle.ordered.specs.Way.{Step, Way, Rule, Turn, stop, to, way, endNumber, readOn, isDamaged, broken, passing, turning, joined, following, passing-equal, pushing, down, staying}
+use Rattle.ordered.specs.Reading.{Reading, readOf, brokenIn, keyAt, to-its-end, has, right-left-aside, right-child, next-by, next, left-left-aside, prev-by, prev, first, last, gap-by, gap}
+use Rattle.ordered.specs.Change.{Adding, Erasing, ends-at, numberAt, adding-by, adding, erasing-by, erasing}
+use Rattle.ordered.proofs.Ways.{step, Blind, following-blind, passing-equal-blind, pushing-blind, staying-blind, down-blind}
+
+-- some number of the list is bad
+abbrev pub Some : (ℕ → Type 0) → List ℕ → Type 0
+Some Bad is = (i : ℕ) × (i ∈ is) × Bad i
+
+-- the ways vs break exactly where the ways ws read a bad row
+abbrev pub Exactly : (ℕ → Type 0) → List Way → List Way → Type 0
+Exactly Bad ws vs = Whether (Some Bad (readOf ws)) (brokenIn vs)
+
+abbrev way-to : List Step → ℕ → Tree → Way
+way-to ss m t = record { passed = ss; bits = m; end = t }
+
+-- row i of the whole tree has the number σ i in the cut one
+module _ (Bad : ℕ → Type 0) (σ : ℕ → ℕ) where
+  pub data Pruned : Tree → Tree → Type 0 where
+    empty : Pruned none none
+    kept : {i : ℕ} {e : Entry} {l r l′ r′ : Tree} → ¬ Bad i → Pruned l l′ → Pruned r r′ → Pruned (row i e l r) (row (σ i) e l′ r′)
+    cut : {i : ℕ} {e : Entry} {l r : Tree} → Bad i → Pruned (row i e l r) damaged
+
+  data Beside : Step → Step → Type 0 where
+    beside :
+        {m i : ℕ} {e : Entry} {l r l′ r′ : Tree} {s : Side} → ¬ Bad i → Pruned l l′ → Pruned r r′
+        → Beside (step m i e l r s) (step m (σ i) e l′ r′ s)
+
+  data Steps : List Step → List Step → Type 0 where
+    no-steps : Steps [] []
+    steps : {s s′ : Step} {ss ss′ : List Step} → Beside s s′ → Steps ss ss′ → Steps (s ∷ ss) (s′ ∷ ss′)
+
+  data Found : Perhaps Step → Perhaps Step → Type 0 where
+    neither : Found no-such no-such
+    both : {s s′ : Step} → Beside s s′ → Found (such s) (such s′)
+
+  -- two ways by one rule: the one reads a bad row and the other breaks, or both pass the same rows and end alike
+  data Goes : Way → Way → Type 0 where
+    breaks : {w : Way} {ss : List Step} {m : ℕ} → Some Bad (readOn w) → Goes w (way-to ss m damaged)
+    ends :
+        {ss ss′ : List Step} {m : ℕ} {t t′ : Tree} → Steps ss ss′ → Pruned t t′ → isDamaged t′ ≡ false
+        → Goes (way-to ss m t) (way-to ss′ m t′)
+
+  -- the ways of a call, one after another; after one that breaks nothing is asked of the rest
+  data Ways : List Way → List Way → Type 0 where
+    no-ways : Ways [] []
+    one-way : {w v : Way} {ws vs : List Way} → Goes w v → Ways ws vs → Ways (w ∷ ws) (v ∷ vs)
+    cut-off : {w : Way} {ss : List Step} {m : ℕ} {ws vs : List Way} → Some Bad (readOn w) → Ways (w ∷ ws) (way-to ss m damaged ∷ vs)
+
+-- what is said of one way, of `add` and of `del` beside this: where they do not break, they end alike
+pub record Gone (Bad : ℕ → Type 0) (σ : ℕ → ℕ) (w v : Way) : Type 0 where
+  pub exactly : Exactly Bad (w ∷ []) (v ∷ [])
+  pub same-key : broken v ≡ false → keyAt (w .end) ≡ keyAt (v .end)
+  pub same-number : broken v ≡ false → σ (numberAt (w .end)) ≡ numberAt (v .end)
+
+pub record Added (Bad : ℕ → Type 0) (a a′ : Adding) : Type 0 where
+  pub exactly : Exactly Bad (a .rows-read ∷ []) (a′ .rows-read ∷ [])
+  pub same-presence : broken (a′ .rows-read) ≡ false → a .present ≡ a′ .present
+
+pub record Erased (Bad : ℕ → Type 0) (σ : ℕ → ℕ) (a a′ : Erasing) : Type 0 where
+  pub exactly : Exactly Bad (a .rows-read ∷ []) (a′ .rows-read ∷ [])
+  pub same-presence : broken (a′ .rows-read) ≡ false → a .present ≡ a′ .present
+  pub same-hole : broken (a′ .rows-read) ≡ false → σ (a .hole) ≡ a′ .hole
+
+-- a way by any rule reads the row from which it goes
+start-read : (f : Rule) (m : ℕ) (t : Tree) {i : ℕ} → i ∈ endNumber t → i ∈ readOn (way f m t)
+unfolding way readOn
+start-read f m none there = absurd (List·Memᴰ·not-nil there)
+start-read f m damaged there = absurd (List·Memᴰ·not-nil there)
+start-read f zero (row j e l r) there = there
+start-read f (suc m) (row j e l r) {i} (List·Memᴰ·head same) = turned (f m e l r)
+  where
+    turned : (c : Turn) → i ∈ readOn (turning (way f m) m j e l r c)
+    turned stop = List·Memᴰ·head same
+    turned (to s) = List·Memᴰ·head same
+
+at-damage : (f : Rule) (m : ℕ) → way f m damaged ≡ way-to [] m damaged
+unfolding way
+at-damage f zero = refl
+at-damage f (suc m) = refl
+
+-- what follows the way by which a call begins
+abbrev next-from : ℕ → Way → Reading
+next-from k w = next-by w (only-if (ltb k) (keyAt (w .end))) (last-such right-left-aside (w .passed))
+
+abbrev lower-key : ℕ → Step → Bool
+lower-key k s = ltb (s .entry .key) k
+
+abbrev prev-from : ℕ → Way → Reading
+prev-from k w = prev-by w (only-if (λ x. ltb x k) (keyAt (w .end))) (last-such (lower-key k) (w .passed))
+
+abbrev gap-from : ℕ → Way → Reading → Reading
+gap-from k w after = gap-by k (prev-from k w) after (only-if (eqb k) (keyAt (w .end))) (w ∷ [])
+
+-- a way that goes on from its end by another rule
+abbrev onward : Rule → Way → Way
+onward g w = joined w (way g (w .bits) (w .end))
+
+abbrev adding-from : ℕ → Way → Bool → Adding
+adding-from k w = adding-by k w (way pushing (w .bits) (w .end)) (onward pushing w)
+
+abbrev erasing-from : Way → Bool → Erasing
+erasing-from w = erasing-by w (way (down left) (w .bits) (w .end)) (onward (down left) w)
+
+-- that way is the first of its ways
+abbrev Led : Way → List Way → Type 0
+Led w ws = (rest : List Way) × (ws ≡ w ∷ rest)
+
+next-led : (k : ℕ) (w : Way) → Led w (next-from k w .ways)
+next-led k w = led (only-if (ltb k) (keyAt (w .end))) (last-such right-left-aside (w .passed))
+  where
+    led : (q : Perhaps ℕ) (p : Perhaps Step) → Led w (next-by w q p .ways)
+    led (such x) p = ([], refl)
+    led no-such p = (right-child p ∷ [], refl)
+
+prev-led : (k : ℕ) (w : Way) → Led w (prev-from k w .ways)
+prev-led k w = led (only-if (λ x. ltb x k) (keyAt (w .end))) (last-such (lower-key k) (w .passed))
+  where
+    led : (q : Perhaps ℕ) (p : Perhaps Step) → Led w (prev-by w q p .ways)
+    led (such x) p = ([], refl)
+    led no-such no-such = ([], refl)
+    led no-such (such p) = either (left-left-aside p)
+      where
+        d : Way
+        d = way (down right) (p .below) (p .left-part)
+
+        either : (b : Bool) → Led w ((if b then to-its-end (w ∷ []) d else record { ways = w ∷ []; answer = such (p .entry .key) }) .ways)
+        either true = (d ∷ [], refl)
+        either false = ([], refl)
+
+gap-led : (k : ℕ) (w : Way) (after : Reading) → Led w (gap-from k w after .ways)
+gap-led k w after = led (only-if (eqb k) (keyAt (w .end)))
+  where
+    led : (q : Perhaps ℕ) → Led w (gap-by k (prev-from k w) after q (w ∷ []) .ways)
+    led (such x) = ([], refl)
+    led no-such = let (rest, e) = prev-led k w in (rest ++ after .ways, rw e)
+
+module _ {Bad : ℕ → Type 0} where
+  -- a way that goes on reads what it read
+  bad-onward : (g : Rule) (w : Way) → Some Bad (readOn w) → Some Bad (readOn (onward g w))
+  unfolding readOn joined
+  bad-onward g w (i, there, bad) = (i, still (w .passed) there, bad)
+    where
+      still : (ss : List Step) → i ∈ readOn (way-to ss (w .bits) (w .end)) → i ∈ readOn (onward g (way-to ss (w .bits) (w .end)))
+      still [] there = start-read g (w .bits) (w .end) there
+      still (s ∷ ss) (List·Memᴰ·head same) = List·Memᴰ·head same
+      still (s ∷ ss) (List·Memᴰ·tail there) = List·Memᴰ·tail (still ss there)
+
+  none-empty : ¬ Some Bad []
+  none-empty (i, there, bad) = List·Memᴰ·not-nil there
+
+  none-cons : {i : ℕ} {is : List ℕ} → ¬ Bad i → ¬ Some Bad is → ¬ Some Bad (i ∷ is)
+  none-cons good rest (j, List·Memᴰ·head same, bad) = good (rw same at bad)
+  none-cons good rest (j, List·Memᴰ·tail there, bad) = rest (j, there, bad)
+
+  -- no number of the first list is bad
+  past : (is js : List ℕ) {b : Bool} → ¬ Some Bad is → Whether (Some Bad js) b → Whether (Some Bad (is ++ js)) b
+  past is js {b} good w = (λ e. behind (w .0 e), further)
+    where
+      behind : Some Bad js → Some Bad (is ++ js)
+      behind (i, there, bad) = (i, Memᴰ·append-right is there, bad)
+
+      further : Some Bad (is ++ js) → b ≡ true
+      further (i, there, bad) =
+          elim (List·Memᴰ·append-cases is there) [ inl here ↦ absurd (good (i, here, bad)) | inr after ↦ w .1 (i, after, bad) ]
+
+module _ {Bad : ℕ → Type 0} {σ : ℕ → ℕ} where
+  exists-same : {t t′ : Tree} → Pruned Bad σ t t′ → exists t′ ≡ exists t
+  exists-same empty = refl
+  exists-same (kept good lefts rights) = refl
+  exists-same (cut bad) = refl
+
+  passing-goes : {s s′ : Step} {w v : Way} → Beside Bad σ s s′ → Goes Bad σ w v → Goes Bad σ (passing s w) (passing s′ v)
+  unfolding readOn
+  passing-goes b (breaks (i, there, bad)) = breaks (i, List·Memᴰ·tail there, bad)
+  passing-goes b (ends ss end whole) = ends (steps b ss) end whole
+
+  -- where the other tree has no damage, the two are alike
+  end-good : {t t′ : Tree} → Pruned Bad σ t t′ → isDamaged t′ ≡ false → ¬ Some Bad (endNumber t)
+  end-good empty whole = none-empty
+  end-good (kept good lefts rights) whole = none-cons good none-empty
+  end-good (cut bad) whole = absurd (false≢true (sym whole))
+
+  key-same : {t t′ : Tree} → Pruned Bad σ t t′ → isDamaged t′ ≡ false → keyAt t′ ≡ keyAt t
+  key-same empty whole = refl
+  key-same (kept good lefts rights) whole = refl
+  key-same (cut bad) whole = absurd (false≢true (sym whole))
+
+  number-same : {t t′ : Tree} → σ 0 ≡ 0 → Pruned Bad σ t t′ → isDamaged t′ ≡ false → numberAt t′ ≡ σ (numberAt t)
+  number-same zero-same empty whole = sym zero-same
+  number-same zero-same (kept good lefts rights) whole = refl
+  number-same zero-same (cut bad) whole = absurd (false≢true (sym whole))
+
+  -- one law for the ways by every rule
+  goes : (f : Rule) → Blind f → (m : ℕ) {t t′ : Tree} → Pruned Bad σ t t′ → Goes Bad σ (way f m t) (way f m t′)
+  unfolding way
+  goes f blind zero empty = ends no-steps empty refl
+  goes f blind zero (kept good lefts rights) = ends no-steps (kept good lefts rights) refl
+  goes f blind zero (cut {i} {e} {l} {r} bad) = breaks (i, start-read f zero (row i e l r) (List·Memᴰ·head refl), bad)
+  goes f blind (suc m) empty = ends no-steps empty refl
+  goes f blind (suc m) (kept {i} {e} {l} {r} {l′} {r′} good lefts rights) =
+      rw (blind m e l r l′ r′ (exists-same lefts) (exists-same rights)) (turned (f m e l r) (goes f blind m lefts) (goes f blind m rights))
+    where
+      turned : (c : Turn) → Goes Bad σ (way f m l) (way f m l′) → Goes Bad σ (way f m r) (way f m r′)
+          → Goes Bad σ (turning (way f m) m i e l r c) (turning (way f m) m (σ i) e l′ r′ c)
+      turned stop on-left on-right = ends no-steps (kept good lefts rights) refl
+      turned (to left) on-left on-right = passing-goes (beside good lefts rights) on-left
+      turned (to right) on-left on-right = passing-goes (beside good lefts rights) on-right
+  goes f blind (suc m) (cut {i} {e} {l} {r} bad) = breaks (i, start-read f (suc m) (row i e l r) (List·Memᴰ·head refl), bad)
+
+  joined-goes : {ss ss′ : List Step} (m : ℕ) (t t′ : Tree) {w v : Way} → Steps Bad σ ss ss′ → Goes Bad σ w v
+      → Goes Bad σ (joined (way-to ss m t) w) (joined (way-to ss′ m t′) v)
+  unfolding joined
+  joined-goes m t t′ no-steps g = g
+  joined-goes m t t′ (steps b ss) g = passing-goes b (joined-goes m t t′ ss g)
+
+  goes-on : (g : Rule) → Blind g → {w v : Way} → Goes Bad σ w v → Goes Bad σ (onward g w) (onward g v)
+  unfolding joined
+  goes-on g blind (breaks {w} {m} bad) = rw (at-damage g m) (breaks (bad-onward g w bad))
+  goes-on g blind (ends {m} {t} {t′} ss end whole) = joined-goes m t t′ ss (goes g blind m end)
+
+  none-bad : {ss ss′ : List Step} {is : List ℕ} → Steps Bad σ ss ss′ → ¬ Some Bad is → ¬ Some Bad (map (λ s. s .at) ss ++ is)
+  none-bad no-steps rest = rest
+  none-bad (steps (beside good lefts rights) ss) rest = none-cons good (none-bad ss rest)
+
+  ways-tested : {ws vs : List Way} → Ways Bad σ ws vs → Exactly Bad ws vs
+  unfolding readOf readOn brokenIn broken
+  ways-tested no-ways = (λ e. absurd (false≢true e), λ some. absurd (none-empty some))
+  ways-tested (cut-off {ws} (i, there, bad)) = (λ e. (i, Memᴰ·append-left (readOf ws) there, bad), λ some. refl)
+  ways-tested (one-way {ws} (breaks (i, there, bad)) rest) = (λ e. (i, Memᴰ·append-left (readOf ws) there, bad), λ some. refl)
+  ways-tested (one-way {w} {ws} (ends ss end whole) rest) =
+      rw whole (past (readOn w) (readOf ws) (none-bad ss (end-good end whole)) (ways-tested rest))
+
+  alone : {w v : Way} → Goes Bad σ w v → Exactly Bad (w ∷ []) (v ∷ [])
+  alone g = ways-tested (one-way g no-ways)
+
+  ways-append : {ws vs ws′ vs′ : List Way} → Ways Bad σ ws vs → Ways Bad σ ws′ vs′ → Ways Bad σ (ws ++ ws′) (vs ++ vs′)
+  ways-append no-ways rest = rest
+  ways-append (one-way g gs) rest = one-way g (ways-append gs rest)
+  ways-append (cut-off bad) rest = cut-off bad
+
+  off : {w : Way} {ss : List Step} {m : ℕ} {ws vs : List Way} → Some Bad (readOn w) → Led w ws → Led (way-to ss m damaged) vs → Ways Bad σ ws vs
+  off bad (rest, e) (rest′, e′) = rw (e, e′) (cut-off bad)
+
+  -- what is sought among the rows passed
+  found : (p : Step → Bool) → ((s s′ : Step) → Beside Bad σ s s′ → p s′ ≡ p s) → {ss ss′ : List Step} → Steps Bad σ ss ss′
+      → Found Bad σ (last-such p ss) (last-such p ss′)
+  unfolding last-such
+  found p same no-steps = neither
+  found p same (steps {s} {s′} b rest) = rw (same s s′ b) (either (found p same rest) (p s))
+    where
+      either : {q q′ : Perhaps Step} → Found Bad σ q q′ → (c : Bool)
+          → Found Bad σ (first-of q (if c then such s else no-such)) (first-of q′ (if c then such s′ else no-such))
+      either neither true = both b
+      either neither false = neither
+      either (both b′) c = both b′
+
+  next-by-goes : {w v : Way} {p p′ : Perhaps Step} → Goes Bad σ w v → (q : Perhaps ℕ) → Found Bad σ p p′
+      → Ways Bad σ (next-by w q p .ways) (next-by v q p′ .ways)
+  next-by-goes g (such x) f = one-way g no-ways
+  next-by-goes g no-such neither = one-way g (one-way (ends no-steps empty refl) no-ways)
+  next-by-goes g no-such (both (beside {m} good lefts rights)) = one-way g (one-way (goes staying staying-blind m rights) no-ways)
+
+  prev-by-goes : {w v : Way} {p p′ : Perhaps Step} → Goes Bad σ w v → (q : Perhaps ℕ) → Found Bad σ p p′
+      → Ways Bad σ (prev-by w q p .ways) (prev-by v q p′ .ways)
+  prev-by-goes g (such x) f = one-way g no-ways
+  prev-by-goes g no-such neither = one-way g no-ways
+  prev-by-goes {w} {v} g no-such (both (beside {m} {e} {l} {l′} {s} good lefts rights)) =
+      rw (exists-same lefts) (either (isSide right s && exists l))
+    where
+      aside : Bool → Way → Tree → Reading
+      aside b w t = if b then to-its-end (w ∷ []) (way (down right) m t) else record { ways = w ∷ []; answer = such (e .key) }
+
+      either : (b : Bool) → Ways Bad σ (aside b w l .ways) (aside b v l′ .ways)
+      either true = one-way g (one-way (goes (down right) (down-blind right) m lefts) no-ways)
+      either false = one-way g no-ways
+
+  -- the laws, for every call with m bits left
+  module _ (m : ℕ) {t t′ : Tree} (pruned : Pruned Bad σ t t′) where
+    pub first-tested : Exactly Bad (first m t .ways) (first m t′ .ways)
+    unfolding first
+    first-tested = alone (goes staying staying-blind m pruned)
+
+    pub last-tested : Exactly Bad (last m t .ways) (last m t′ .ways)
+    unfolding last
+    last-tested = alone (goes (down right) (down-blind right) m pruned)
+
+    module _ (k : ℕ) where
+      the-way : Goes Bad σ (way (following k) m t) (way (following k) m t′)
+      the-way = goes (following k) (following-blind k) m pruned
+
+      next-goes : Ways Bad σ (next m k t .ways) (next m k t′ .ways)
+      unfolding next
+      next-goes = by-way (goes (passing-equal k) (passing-equal-blind k) m pruned)
+        where
+          sought : {ss ss′ : List Step} → Steps Bad σ ss ss′ → Found Bad σ (last-such right-left-aside ss) (last-such right-left-aside ss′)
+          sought = found right-left-aside same
+            where
+              same : (s s′ : Step) → Beside Bad σ s s′ → right-left-aside s′ ≡ right-left-aside s
+              same s s′ (beside good lefts rights) = rw (exists-same rights)
+
+          by-way : {w v : Way} → Goes Bad σ w v → Ways Bad σ (next-from k w .ways) (next-from k v .ways)
+          by-way (breaks {w} {ss} {m} bad) = off bad (next-led k w) (next-led k (way-to ss m damaged))
+          by-way (ends {t} ss end whole) =
+              rw (key-same end whole) (next-by-goes (ends ss end whole) (only-if (ltb k) (keyAt t)) (sought ss))
+
+      prev-goes : Ways Bad σ (prev m k t .ways) (prev m k t′ .ways)
+      unfolding prev
+      prev-goes = by-way the-way
+        where
+          sought : {ss ss′ : List Step} → Steps Bad σ ss ss′ → Found Bad σ (last-such (lower-key k) ss) (last-such (lower-key k) ss′)
+          sought = found (lower-key k) same
+            where
+              same : (s s′ : Step) → Beside Bad σ s s′ → lower-key k s′ ≡ lower-key k s
+              same s s′ (beside good lefts rights) = refl
+
+          by-way : {w v : Way} → Goes Bad σ w v → Ways Bad σ (prev-from k w .ways) (prev-from k v .ways)
+          by-way (breaks {w} {ss} {m} bad) = off bad (prev-led k w) (prev-led k (way-to ss m damaged))
+          by-way (ends {t} ss end whole) =
+              rw (key-same end whole) (prev-by-goes (ends ss end whole) (only-if (λ x. ltb x k) (keyAt t)) (sought ss))
+
+      gap-goes : Ways Bad σ (gap m k t .ways) (gap m k t′ .ways)
+      unfolding gap has prev
+      gap-goes = by-way the-way prev-goes
+        where
+          by-way : {w v : Way} → Goes Bad σ w v → Ways Bad σ (prev-from k w .ways) (prev-from k v .ways)
+              → Ways Bad σ (gap-from k w (next m k t) .ways) (gap-from k v (next m k t′) .ways)
+          by-way (breaks {w} {ss} {m = n} bad) before = off bad (gap-led k w (next m k t)) (gap-led k (way-to ss n damaged) (next m k t′))
+          by-way {w} {v} (ends ss end whole) before =
+              either (only-if (eqb k) (keyAt (w .end))) (only-if (eqb k) (keyAt (v .end))) (ap (only-if (eqb k)) (key-same end whole))
+            where
+              either : (q q′ : Perhaps ℕ) → q′ ≡ q
+                  → Ways Bad σ (gap-by k (prev-from k w) (next m k t) q (w ∷ []) .ways) (gap-by k (prev-from k v) (next m k t′) q′ (v ∷ []) .ways)
+              either (such x) q′ same = rw same (one-way (ends ss end whole) no-ways)
+              either no-such q′ same = rw same (ways-append before next-goes)
+
+      pub has-tested : Exactly Bad (has m k t .ways) (has m k t′ .ways)
+      unfolding has
+      has-tested = alone the-way
+
+      pub next-tested : Exactly Bad (next m k t .ways) (next m k t′ .ways)
+      next-tested = ways-tested next-goes
+
+      pub prev-tested : Exactly Bad (prev m k t .ways) (prev m k t′ .ways)
+      prev-tested = ways-tested prev-goes
+
+      pub gap-tested : Exactly Bad (gap m k t .ways) (gap m k t′ .ways)
+      gap-tested = ways-tested gap-goes
+
+      pub adding-tested : Added Bad (adding m k t) (adding m k t′)
+      unfolding adding joined broken
+      adding-tested = by-way the-way
+        where
+          by-way : {w v : Way} → Goes Bad σ w v → Added Bad (adding-from k w (ends-at k w)) (adding-from k v (ends-at k v))
+          by-way (breaks {w} {ss} {m} bad) = rw (at-damage pushing m) (either (ends-at k w))
+            where
+              either : (b : Bool)
+                  → Added Bad (adding-from k w b) (adding-by k (way-to ss m damaged) (way-to [] m damaged) (way-to (ss ++ []) m damaged) false)
+              either true = record { exactly = alone (breaks bad); same-presence = λ unbroken. absurd (false≢true (sym unbroken)) }
+              either false =
+                  record { exactly = alone (breaks (bad-onward pushing w bad)); same-presence = λ unbroken. absurd (false≢true (sym unbroken)) }
+          by-way {w} {v} (ends ss end whole) = rw (key-same end whole) (either (ends-at k w))
+            where
+              either : (b : Bool) → Added Bad (adding-from k w b) (adding-from k v b)
+              either true = record { exactly = alone (ends ss end whole); same-presence = λ unbroken. refl }
+              either false = record { exactly = alone (goes-on pushing pushing-blind (ends ss end whole)); same-presence = λ unbroken. refl }
+
+      -- a tree that is none has the number 0
+      module _ (zero-same : σ 0 ≡ 0) where
+        gone : {w v : Way} → Goes Bad σ w v → Gone Bad σ w v
+        unfolding broken
+        gone (breaks {w} {ss} {m} bad) =
+            record {
+              exactly = alone (breaks bad);
+              same-key = λ unbroken. absurd (false≢true (sym unbroken));
+              same-number = λ unbroken. absurd (false≢true (sym unbroken));
+            }
+        gone (ends ss end whole) =
+            record {
+              exactly = alone (ends ss end whole);
+              same-key = λ unbroken. sym (key-same end whole);
+              same-number = λ unbroken. sym (number-same zero-same end whole);
+            }
+
+        pub way-tested : Gone Bad σ (way (following k) m t) (way (following k) m t′)
+        way-tested = gone the-way
+
+        pub erasing-tested : Erased Bad σ (erasing m k t) (erasing m k t′)
+        unfolding erasing joined broken
+        erasing-tested = by-way the-way
+          where
+            by-way : {w v : Way} → Goes Bad σ w v → Erased Bad σ (erasing-from w (ends-at k w)) (erasing-from v (ends-at k v))
+            by-way (breaks {w} {ss} {m} bad) = either (ends-at k w)
+              where
+                broke : {a : Erasing} → Some Bad (readOn (a .rows-read)) → Erased Bad σ a (erasing-from (way-to ss m damaged) false)
+                broke bad =
+                    record {
+                      exactly = alone (breaks bad);
+                      same-presence = λ unbroken. absurd (false≢true (sym unbroken));
+                      same-hole = λ unbroken. absurd (false≢true (sym unbroken));
+                    }
+
+                either : (b : Bool) → Erased Bad σ (erasing-from w b) (erasing-from (way-to ss m damaged) false)
+                either true = broke (bad-onward (down left) w bad)
+                either false = broke bad
+            by-way {w} {v} (ends {m} ss end whole) = rw (key-same end whole) (either (ends-at k w))
+              where
+                either : (b : Bool) → Erased Bad σ (erasing-from w b) (erasing-from v b)
+                either true =
+                    record {
+                      exactly = alone (goes-on (down left) (down-blind left) (ends ss end whole));
+                      same-presence = λ unbroken. refl;
+                      same-hole = gone (goes (down left) (down-blind left) m end) .same-number;
+                    }
+                either false =
+                    record { exactly = alone (ends ss end whole); same-presence = λ unbroken. refl; same-hole = λ unbroken. zero-same }
