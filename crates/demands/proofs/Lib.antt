@@ -5,11 +5,11 @@ pub mod Meeting
 pub mod Tested
 pub mod SoundIs
 pub mod Whether
-pub mod Damage
 pub mod Owned
-pub mod Refusals
 pub mod Written
 pub mod SecondWay
+pub mod Damage
+pub mod Refusals
 pub mod RowsRead
 pub mod Answered
 pub mod Spelled

@@ -3,7 +3,7 @@
 use Prim.Native.Nat.{ℕ, suc, _*_, _^_, _<_, pred}
 use mathlib.Core.Path.{_≡_, refl, sym, ap, _∙_}
 use mathlib.Core.Logic.{_↔_, Iff·symm, _⊎_, inl, inr}
-use mathlib.Core.Bool.{Bool, true, false, not, _&&_, _||_, false≢true}
+use mathlib.Core.Bool.{Bool, true, false, not, _&&_, _||_, or-false, false≢true}
 use mathlib.Core.List.{List, [], _∷_, _++_}
 use native.Mathlib.Omega.{arith}
 use native.Mathlib.Nat.{add-zero}
@@ -33,9 +33,11 @@ use Rattle.pretree.specs.Del.{secondWay, astray, shrunk, delOutcome}
 use Rattle.pretree.specs.declared.Call.{Call}
 use Rattle.pretree.specs.declared.Call.the-variants.{New, Add, Del, Has, Next, Prev, Gap, First, Last, Audit}
 use Rattle.pretree.specs.Call.{After, after}
-use Rattle.demands.specs.Refusals.{waysOf, Wrong-width, Wrong-header, Too-wide, DamageOn, EndsAt, Full as Full-for, Astray, Check, _when_, header-checks, checks, FirstGiven}
+use Rattle.demands.specs.Refusals.{waysOf, Wrong-width, Wrong-header, Too-wide, Full as Full-for, Check, _when_, header-checks, checks, FirstGiven}
 use Rattle.demands.specs.Refusals.{Refusal, Untouched, SameFrom, numberAfter, Demand1}
+use Rattle.demands.specs.Damage.{DamageOn, Absent}
 use Rattle.demands.proofs.SoundIs.{sound-is}
+use Rattle.demands.proofs.Damage.{damageTest, damage-tested, absent-tested}
 use Rattle.demands.proofs.Owned.{same-all, new-kept, add-kept, del-kept, list-kept}
 use Rattle.demands.proofs.Whether.{fails, holds, never, both-tested, either-tested, not-tested, less-tested, at-most-tested, equal-tested}
 
@@ -116,10 +118,15 @@ too-wide-tested : (h : Header) (k : ℕ) → Whether (Too-wide h k) (too-wide h 
 unfolding too-wide
 too-wide-tested h k = at-most-tested (2 ^ h .width) k
 
--- the calls that only read. Those that take a word make a check of it between the header's and the way's.
-module _ (h : Header) (table buffer : List ℕ) (word : ℕ → Answer) (r : Reading) (zero-number : (x : ℕ) → numberOf (word x) ≡ 0) where
+-- The calls that only read, where the damage on their ways is `Damage-there`. Those that take a word make a check of it between the header's and
+-- the way's.
+module _ (h : Header) (table buffer : List ℕ) (word : ℕ → Answer) (r : Reading) (zero-number : (x : ℕ) → numberOf (word x) ≡ 0)
+    {Damage-there : Type 0} (tested : Whether Damage-there (brokenIn (r .ways))) where
   abbrev Seen-reading : List Check → Reply → Type 0
   Seen-reading cs reply = Seen cs h table buffer (r .ways) (record { reply = reply; table = table; buffer = buffer })
+
+  abbrev of-way : List Check
+  of-way = 4 when Damage-there ∷ []
 
   found : (q : Perhaps ℕ) → ¬ Refusal (numberOf (saying word q))
   unfolding numberOf
@@ -127,26 +134,24 @@ module _ (h : Header) (table buffer : List ℕ) (word : ℕ → Answer) (r : Rea
   found no-such number = omega arith
 
   way-seen :
-      Seen-reading (4 when (brokenIn (r .ways) ≡ true) ∷ [])
-      (if brokenIn (r .ways) then refused h Damage else answered h (saying word (r .answer)) (rowsOf (r .ways)))
+      Seen-reading of-way (if brokenIn (r .ways) then refused h Damage else answered h (saying word (r .answer)) (rowsOf (r .ways)))
   unfolding numberOf
   way-seen =
-      judge (Seen-reading (4 when (brokenIn (r .ways) ≡ true) ∷ [])) (λ e. e, λ e. e) (refuse Damage (omega arith))
+      judge (Seen-reading of-way) tested (refuse Damage (omega arith))
       (λ whole. pass whole (answer (saying word (r .answer)) (found (r .answer)) refl))
 
-  read-seen : Seen-reading (header-checks h table ++ 4 when (brokenIn (r .ways) ≡ true) ∷ []) (read-reply h table false word r)
+  read-seen : Seen-reading (header-checks h table ++ of-way) (read-reply h table false word r)
   unfolding numberOf
   read-seen =
-      judge (Seen-reading (header-checks h table ++ 4 when (brokenIn (r .ways) ≡ true) ∷ [])) (wrong-header-tested h table) (refuse WrongHeader (omega arith))
+      judge (Seen-reading (header-checks h table ++ of-way)) (wrong-header-tested h table) (refuse WrongHeader (omega arith))
       (λ right. pass right way-seen)
 
-  read-word-seen : (k : ℕ)
-      → Seen-reading (header-checks h table ++ 3 when Too-wide h k ∷ 4 when (brokenIn (r .ways) ≡ true) ∷ []) (read-reply h table (too-wide h k) word r)
+  read-word-seen : (k : ℕ) → Seen-reading (header-checks h table ++ 3 when Too-wide h k ∷ of-way) (read-reply h table (too-wide h k) word r)
   unfolding numberOf
   read-word-seen k =
-      judge (Seen-reading (header-checks h table ++ 3 when Too-wide h k ∷ 4 when (brokenIn (r .ways) ≡ true) ∷ [])) (wrong-header-tested h table) (refuse WrongHeader (omega arith))
+      judge (Seen-reading (header-checks h table ++ 3 when Too-wide h k ∷ of-way)) (wrong-header-tested h table) (refuse WrongHeader (omega arith))
       (λ right. pass right
-      (judge (Seen-reading (3 when Too-wide h k ∷ 4 when (brokenIn (r .ways) ≡ true) ∷ [])) (too-wide-tested h k) (refuse WordTooWide (omega arith))
+      (judge (Seen-reading (3 when Too-wide h k ∷ of-way)) (too-wide-tested h k) (refuse WordTooWide (omega arith))
       (λ narrow. pass narrow way-seen)))
 
 -- what is seen of a call
@@ -175,17 +180,25 @@ new-seen W h table buffer = by-cases (wrong-width W) (wrong-width-tested W)
 whether-sound : (h : Header) (table : List ℕ) → Whether (Sound h table) (isSound h table)
 whether-sound h table = Iff·symm (sound-is h table .the-test)
 
-alone : (b : Bool) → Whether ((b || false) ≡ true) b
-alone true = holds refl
-alone false = never false≢true
+-- what `add` and `del` test for damage
+add-damage : (k : ℕ) (h : Header) (table : List ℕ) → Whether (DamageOn (Add k) h table) (broken (adding (h .width) k (shown h table) .rows-read))
+unfolding damageTest waysOf brokenIn
+add-damage k h table = rw or-false at (damage-tested (Add k) h table)
+
+del-damage : (k : ℕ) (h : Header) (table : List ℕ)
+    → let e : Erasing = erasing (h .width) k (shown h table) in
+    let second : Way = secondWay h table in
+    Whether (DamageOn (Del k) h table)
+    (broken (e .rows-read) || (e .present && (not (eqb (e .hole) (pred (h .count))) && (broken second || astray h table second))))
+unfolding damageTest
+del-damage k h table = damage-tested (Del k) h table
 
 add-seen : (k : ℕ) (h : Header) (table buffer : List ℕ) → Seen-of (Add k) h table buffer
-unfolding after checks numberOf addOutcome waysOf brokenIn rowsOf
+unfolding after checks numberOf addOutcome waysOf rowsOf
 add-seen k h table buffer =
     judge (P (header-checks h table ++ of-word)) (wrong-header-tested h table) (refuse WrongHeader (omega arith))
     (λ right. pass right (judge (P of-word) (too-wide-tested h k) (refuse WordTooWide (omega arith))
-    (λ narrow. pass narrow (judge (P of-way) (alone (broken (a .rows-read))) (refuse Damage (omega arith))
-    (λ whole. pass whole (by-presence (a .present) refl))))))
+    (λ narrow. pass narrow (by-damage (broken (a .rows-read)) refl))))
   where
     a : Adding
     a = adding (h .width) k (shown h table)
@@ -209,16 +222,30 @@ add-seen k h table buffer =
           table = grown (h .count) a table;
         }
 
-    by-presence : (b : Bool) → a .present ≡ b
-        → P of-room (if b then record { reply = answered h AlreadyThere (rows (a .rows-read)); table = table }
-        else if eqb (h .count) (capacity table) then record { reply = refused h Full; table = table }
-        else more)
-    by-presence true there =
-        pass (λ full. false≢true (sym (full .0) ∙ there)) (answer AlreadyThere (λ r. omega arith) (sym (add-zero (rows (a .rows-read)))))
-    by-presence false absent =
+    by-room : Absent k h table
+        → P of-room (if eqb (h .count) (capacity table) then record { reply = refused h Full; table = table } else more)
+    by-room absent =
         judge (P of-room) (both-tested true (eqb (h .count) (capacity table)) (holds absent) (equal-tested (h .count) (capacity table)))
         (refuse Full (omega arith))
         (λ room. pass room (zero-seen (record { reply = more .reply; table = more .table; buffer = buffer }) refl))
+
+    by-presence : (b : Bool) → Whether (Absent k h table) (not b)
+        → P of-room (if b then record { reply = answered h AlreadyThere (rows (a .rows-read)); table = table }
+        else if eqb (h .count) (capacity table) then record { reply = refused h Full; table = table }
+        else more)
+    by-presence true absent =
+        pass (λ full. fails absent (full .0)) (answer AlreadyThere (λ r. omega arith) (sym (add-zero (rows (a .rows-read)))))
+    by-presence false absent = by-room (absent .0 refl)
+
+    by-damage : (b : Bool) → broken (a .rows-read) ≡ b
+        → P of-way (if b then record { reply = refused h Damage; table = table }
+        else if a .present then record { reply = answered h AlreadyThere (rows (a .rows-read)); table = table }
+        else if eqb (h .count) (capacity table) then record { reply = refused h Full; table = table }
+        else more)
+    by-damage true damaged-there = refuse Damage (omega arith) (add-damage k h table .0 damaged-there)
+    by-damage false whole =
+        pass (λ damage. false≢true (sym whole ∙ add-damage k h table .1 damage))
+        (by-presence (a .present) (absent-tested k h table whole))
 
 audit-seen : (h : Header) (table buffer : List ℕ) → Seen-of Audit h table buffer
 unfolding after checks numberOf auditReply waysOf
@@ -265,47 +292,19 @@ list-seen h table buffer =
         pass (fails v) (pass (λ not-sound. not-sound (w .0 refl)) (pass (fails u)
         (zero-seen (record { reply = answered h Done (h .count); table = table; buffer = listed }) refl)))
 
--- a way ends at row i with the key k
-module _ (i k : ℕ) where
-  isThere-only : (b : Bool) (x : ℕ) → isThere (if b then such x else no-such) ≡ b
-  isThere-only true x = refl
-  isThere-only false x = refl
-
-  end-tested : (t : Tree)
-      → Whether ((l : Tree) × (r : Tree) × (t ≡ row i (record { key = k }) l r)) (isThere (only-if (eqb k) (keyAt t)) && eqb (numberAt t) i)
-  end-tested none = never (λ there. false≢true (ap exists (there .2)))
-  end-tested damaged = never (λ there. false≢true (sym (ap isDamaged (there .2))))
-  end-tested (row j e l r) =
-      let same = both-tested (eqb k (e .key)) (eqb j i) (equal-tested k (e .key)) (equal-tested j i) in
-      rw (isThere-only (eqb k (e .key)) (e .key)) (
-        λ passed. (l, r, rw (same .0 passed .0, same .0 passed .1)),
-        λ there. same .1 (sym (ap (λ t. entryAt t .key) (there .2)), ap numberAt (there .2)),
-      )
-
-  ends-tested : (w : Way) → Whether (EndsAt i k w) (ends-at k w && eqb (numberAt (w .end)) i)
-  ends-tested w = end-tested (w .end)
-
-  -- a broken way ends at no row
-  astray-tested : (w : Way) (b : Bool) → Whether (EndsAt i k w) b → Whether (¬ EndsAt i k w) (broken w || not b)
-  unfolding broken
-  astray-tested w b ends = by-cases (isDamaged (w .end)) refl
-    where
-      by-cases : (d : Bool) → isDamaged (w .end) ≡ d → Whether (¬ EndsAt i k w) (d || not b)
-      by-cases true damaged-there = holds (λ there. false≢true (sym (ap isDamaged (there .2)) ∙ damaged-there))
-      by-cases false other = not-tested b ends
-
 del-seen : (k : ℕ) (h : Header) (table buffer : List ℕ) → Seen-of (Del k) h table buffer
-unfolding after checks numberOf delOutcome astray waysOf brokenIn rowsOf
+unfolding after checks numberOf delOutcome waysOf rowsOf
 del-seen k h table buffer =
     judge (P (header-checks h table ++ of-word)) (wrong-header-tested h table) (refuse WrongHeader (omega arith))
     (λ right. pass right (judge (P of-word) (too-wide-tested h k) (refuse WordTooWide (omega arith))
-    (λ narrow. pass narrow (by-damage (broken (e .rows-read)) (alone (broken (e .rows-read))) (e .present) refl))))
+    (λ narrow. pass narrow
+    (by-cases (broken (e .rows-read)) (e .present) (moves && (broken second || astray h table second)) (del-damage k h table)))))
   where
     e : Erasing
     e = erasing (h .width) k (shown h table)
 
     of-way : List Check
-    of-way = 4 when (DamageOn (Del k) h table ⊎ Astray k h table) ∷ []
+    of-way = 4 when DamageOn (Del k) h table ∷ []
 
     of-word : List Check
     of-word = 3 when Too-wide h k ∷ of-way
@@ -335,44 +334,29 @@ del-seen k h table buffer =
           table = shrunk last-row e second moves table;
         }
 
-    -- the second way, where the word is there and the first way is whole
-    second-tested : ¬ DamageOn (Del k) h table → e .present ≡ true
-        → Whether (DamageOn (Del k) h table ⊎ Astray k h table) (moves && (broken second || astray h table second))
-    second-tested whole there =
-        let key : ℕ = rowAt table last-row .entry .key in
-        let ends : Bool = ends-at key second && eqb (numberAt (second .end)) last-row in
-        let tested =
-        both-tested moves (broken second || not ends) (not-tested (eqb (e .hole) last-row) (equal-tested (e .hole) last-row))
-        (astray-tested last-row key second ends (ends-tested last-row key second))
-        in (
-          λ passed. inr (record { present = there; hole-elsewhere = tested .0 passed .0 }, tested .0 passed .1),
-          elim [ inl on-way ↦ absurd (whole on-way) | inr lost ↦ tested .1 (lost .0 .hole-elsewhere, lost .1) ],
-        )
-
-    by-damage : (b : Bool) → Whether (DamageOn (Del k) h table) b → (p : Bool) → e .present ≡ p
-        → P of-way (if b then record { reply = refused h Damage; table = table }
-        else if not p then record { reply = answered h NoSuchWord (rows (e .rows-read)); table = table }
-        else if moves && (broken second || astray h table second) then record { reply = refused h Damage; table = table }
+    by-cases : (first-damaged present second-damaged : Bool)
+        → Whether (DamageOn (Del k) h table) (first-damaged || (present && second-damaged))
+        → P of-way (if first-damaged then record { reply = refused h Damage; table = table }
+        else if not present then record { reply = answered h NoSuchWord (rows (e .rows-read)); table = table }
+        else if second-damaged then record { reply = refused h Damage; table = table }
         else less)
-    by-damage true w p present = refuse Damage (omega arith) (inl (w .0 refl))
-    by-damage false w false absent =
-        pass (elim [ inl on-way ↦ fails w on-way | inr lost ↦ false≢true (sym absent ∙ lost .0 .present) ])
-        (answer NoSuchWord (λ r. omega arith) (sym (add-zero (rows (e .rows-read)))))
-    by-damage false w true there =
-        judge (P of-way) (second-tested (fails w) there) (refuse Damage (omega arith))
-        (λ whole. pass whole (zero-seen (record { reply = less .reply; table = less .table; buffer = buffer }) refl))
+    by-cases true p q w = refuse Damage (omega arith) (w .0 refl)
+    by-cases false false q w =
+        pass (fails w) (answer NoSuchWord (λ r. omega arith) (sym (add-zero (rows (e .rows-read)))))
+    by-cases false true true w = refuse Damage (omega arith) (w .0 refl)
+    by-cases false true false w = pass (fails w) (zero-seen (record { reply = less .reply; table = less .table; buffer = buffer }) refl)
 
 seen : (c : Call) (h : Header) (table buffer : List ℕ) → Seen-of c h table buffer
-unfolding numberOf after checks waysOf hasReply nextReply prevReply gapReply firstReply lastReply
+unfolding numberOf after checks waysOf damageTest hasReply nextReply prevReply gapReply firstReply lastReply
 seen (New W) h table buffer = new-seen W h table buffer
 seen (Add k) h table buffer = add-seen k h table buffer
 seen (Del k) h table buffer = del-seen k h table buffer
-seen (Has k) h table buffer = read-word-seen h table buffer done (reading-has (h .width) k (shown h table)) (λ x. refl) k
-seen (Next k) h table buffer = read-word-seen h table buffer Word (reading-next (h .width) k (shown h table)) (λ x. refl) k
-seen (Prev k) h table buffer = read-word-seen h table buffer Word (reading-prev (h .width) k (shown h table)) (λ x. refl) k
-seen (Gap k) h table buffer = read-word-seen h table buffer Distance (reading-gap (h .width) k (shown h table)) (λ x. refl) k
-seen First h table buffer = read-seen h table buffer Word (reading-first (h .width) (shown h table)) (λ x. refl)
-seen Last h table buffer = read-seen h table buffer Word (reading-last (h .width) (shown h table)) (λ x. refl)
+seen (Has k) h table buffer = read-word-seen h table buffer done (reading-has (h .width) k (shown h table)) (λ x. refl) (damage-tested (Has k) h table) k
+seen (Next k) h table buffer = read-word-seen h table buffer Word (reading-next (h .width) k (shown h table)) (λ x. refl) (damage-tested (Next k) h table) k
+seen (Prev k) h table buffer = read-word-seen h table buffer Word (reading-prev (h .width) k (shown h table)) (λ x. refl) (damage-tested (Prev k) h table) k
+seen (Gap k) h table buffer = read-word-seen h table buffer Distance (reading-gap (h .width) k (shown h table)) (λ x. refl) (damage-tested (Gap k) h table) k
+seen First h table buffer = read-seen h table buffer Word (reading-first (h .width) (shown h table)) (λ x. refl) (damage-tested First h table)
+seen Last h table buffer = read-seen h table buffer Word (reading-last (h .width) (shown h table)) (λ x. refl) (damage-tested Last h table)
 seen Audit h table buffer = audit-seen h table buffer
 seen Call.List h table buffer = list-seen h table buffer
 

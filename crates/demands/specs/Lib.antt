@@ -7,10 +7,10 @@
 --    words, with the bounds W+1, W+2 and 2W+4.
 pub mod Program
 pub mod Numbers
-pub mod Refusals
-pub mod Zeros
 pub mod SoundIs
 pub mod Damage
+pub mod Refusals
+pub mod Zeros
 pub mod RowsRead
 pub mod Expected
 pub mod Demand2

@@ -1,26 +1,24 @@
 -- Demand 1. Document 01: "1 to 6 and 9 are refusals: counts 0, header, table and buffer untouched. 7 and 8 report their true counts and
 -- change nothing. Order: 9, 1, 2, 3, 4, then 7 or 8, then 5. For `list`: 2, 4, 6." (9 is the program's, not a call's.)
-use Prim.Native.Nat.{ℕ, zero, suc, _*_, _^_, _≤_, _<_, pred}
+use Prim.Native.Nat.{ℕ, _*_, _^_, _≤_, _<_}
 use mathlib.Core.Path.{_≡_}
 use mathlib.Core.Logic.{_↔_, _⊎_}
-use mathlib.Core.Bool.{true, false}
 use mathlib.Core.List.{List, [], _∷_, _++_}
 use lib.ListN.{length, getD}
-use Rattle.ordered.specs.Tree.{Tree, row}
 use Rattle.ordered.specs.Way.{Way}
-use Rattle.ordered.specs.Reading.{rowsOf, brokenIn}
+use Rattle.ordered.specs.Reading.{rowsOf}
 use Rattle.ordered.specs.Reading.{has as reading-has, next as reading-next, prev as reading-prev, gap as reading-gap, first as reading-first, last as reading-last}
 use Rattle.ordered.specs.Change.{adding, erasing}
 use Rattle.pretree.specs.declared.Header.{Header}
 use Rattle.pretree.specs.Answer.{numberOf}
-use Rattle.pretree.specs.Table.{capacity, rowAt}
+use Rattle.pretree.specs.Table.{capacity}
 use Rattle.pretree.specs.Unfold.{shown}
-use Rattle.pretree.specs.Del.{secondWay}
 use Rattle.pretree.specs.Sound.{Sound}
 use Rattle.pretree.specs.declared.Call.{Call}
 use Rattle.pretree.specs.declared.Call.the-variants.{New, Add, Del, Has, Next, Prev, Gap, First, Last, Audit}
 use Rattle.pretree.specs.Call.{After}
 use Rattle.demands.specs.Program.{Program}
+use Rattle.demands.specs.Damage.{DamageOn, Absent}
 
 -- the ways of a call, whose rows are its count; the second way of `del` has a count of its own, and the other calls go no way
 unfoldable pub waysOf : Call → Header → List ℕ → List Way
@@ -48,28 +46,9 @@ Wrong-header h table = Wrong-width (h .width) ⊎ (capacity table < h .count)
 abbrev pub Too-wide : Header → ℕ → Type 0
 Too-wide h k = 2 ^ h .width ≤ k
 
--- "damage on the way"
-abbrev pub DamageOn : Call → Header → List ℕ → Type 0
-DamageOn c h table = brokenIn (waysOf c h table) ≡ true
-
--- the way ends at row i with the key k
-abbrev pub EndsAt : ℕ → ℕ → Way → Type 0
-EndsAt i k w = (l : Tree) × (r : Tree) × (w .end ≡ row i (record { key = k }) l r)
-
--- "If the hole is not row count−1, that last row is moved into it."
-pub record Moves (k : ℕ) (h : Header) (table : List ℕ) : Type 0 where
-  pub present : erasing (h .width) k (shown h table) .present ≡ true
-  pub hole-elsewhere : ¬ (erasing (h .width) k (shown h table) .hole ≡ pred (h .count))
-
--- "the second way of `del` doesn't end at row count−1 with its key"
-abbrev pub Astray : ℕ → Header → List ℕ → Type 0
-Astray k h table =
-    let last-row : ℕ = pred (h .count) in
-    Moves k h table × ¬ EndsAt last-row (rowAt table last-row .entry .key) (secondWay h table)
-
 -- "`add` of an absent word with count = capacity"
 abbrev pub Full : ℕ → Header → List ℕ → Type 0
-Full k h table = (adding (h .width) k (shown h table) .present ≡ false) × (h .count ≡ capacity table)
+Full k h table = Absent k h table × (h .count ≡ capacity table)
 
 -- a check that a call makes: a refusal's number, and what it is given for
 infix 70 _when_
@@ -89,7 +68,7 @@ header-checks h table = 2 when Wrong-header h table ∷ []
 unfoldable pub checks : Call → Header → List ℕ → List ℕ → List Check
 checks (New W) h table buffer = 1 when Wrong-width W ∷ []
 checks (Add k) h table buffer = header-checks h table ++ 3 when Too-wide h k ∷ 4 when DamageOn (Add k) h table ∷ 5 when Full k h table ∷ []
-checks (Del k) h table buffer = header-checks h table ++ 3 when Too-wide h k ∷ 4 when (DamageOn (Del k) h table ⊎ Astray k h table) ∷ []
+checks (Del k) h table buffer = header-checks h table ++ 3 when Too-wide h k ∷ 4 when DamageOn (Del k) h table ∷ []
 checks (Has k) h table buffer = header-checks h table ++ 3 when Too-wide h k ∷ 4 when DamageOn (Has k) h table ∷ []
 checks (Next k) h table buffer = header-checks h table ++ 3 when Too-wide h k ∷ 4 when DamageOn (Next k) h table ∷ []
 checks (Prev k) h table buffer = header-checks h table ++ 3 when Too-wide h k ∷ 4 when DamageOn (Prev k) h table ∷ []
