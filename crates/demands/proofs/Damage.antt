@@ -2,24 +2,22 @@
 -- rows that are damage.
 use Prim.Native.Nat.{ℕ, zero, suc, _+_, _*_, _-_, _/_, _%_, _^_, _<_, _≤_, pred}
 use mathlib.Core.Path.{_≡_, refl, sym, ap, subst, _∙_}
-use mathlib.Core.Logic.{_⊎_, inl, inr}
 use mathlib.Core.Bool.{Bool, true, false, not, _&&_, _||_, or-false, and-assoc, and-false, false≢true}
 use mathlib.Core.List.{List, [], _∷_}
 use native.Mathlib.Omega.{arith}
 use lib.Dec.{ltb, leb, eqb}
-use lib.Pow.{pow-pos}
-use borrow.Author.Tests.{ltb-false, leb-false, eqb-false, ltb-true, leb-true, eqb-true, lt-leb}
+use borrow.Author.Tests.{ltb-false, leb-false, eqb-false, lt-leb}
 use Rattle.ordered.specs.Such.{if_then_else_, Perhaps, no-such, such, only-if}
-use Rattle.ordered.specs.Word.{Side, left, right, sideOf, bitOf}
+use Rattle.ordered.specs.Word.{Side, left, right, bitOf, side}
 use Rattle.ordered.specs.Said.{Whether}
 use Rattle.ordered.specs.Tree.{Tree, none, row, damaged, Entry, exists, intact}
-use Rattle.ordered.specs.Way.{Way, way, joined, broken, isDamaged, following, pushing, down}
-use Rattle.ordered.specs.Reading.{brokenIn, keyAt}
-use Rattle.ordered.specs.Change.{Erasing, adding-by, adding, erasing-by, erasing, isThere, ends-at, numberAt, entryAt}
+use Rattle.ordered.specs.Way.{Way, way, broken, isDamaged, following}
+use Rattle.ordered.specs.Reading.{brokenIn, keyAt, has}
+use Rattle.ordered.specs.Change.{Erasing, adding, erasing, isThere, ends-at, numberAt, entryAt}
 use Rattle.ordered.proofs.Ways.{unbroken}
 use Rattle.ordered.proofs.Unbroken.{has-unbroken, next-unbroken, prev-unbroken, first-unbroken, last-unbroken, gap-unbroken, adding-unbroken, erasing-unbroken}
 use Rattle.ordered.proofs.Answers.{is-there, adding-finds, erasing-finds}
-use Rattle.ordered.proofs.Pruned.{Pruned, empty, kept, cut, Gone, Added, Erased}
+use Rattle.ordered.proofs.Pruned.{Pruned, empty, kept, cut, Gone, Erased}
 use Rattle.ordered.proofs.Pruned.{has-tested, next-tested, prev-tested, gap-tested, first-tested, last-tested, way-tested, adding-tested, erasing-tested}
 use Rattle.pretree.specs.declared.Header.{Header}
 use Rattle.pretree.specs.declared.Row.{Row}
@@ -28,14 +26,14 @@ use Rattle.pretree.specs.Unfold.{ends-there, judged, linked, unfolded, shown}
 use Rattle.pretree.specs.Del.{secondWay, astray}
 use Rattle.pretree.specs.declared.Call.{Call}
 use Rattle.pretree.specs.declared.Call.the-variants.{New, Add, Del, Has, Next, Prev, Gap, First, Last, Audit}
-use Rattle.demands.specs.Damage.{named-from, named, Visit, root, below, visit, visitAt, Damaged, link-too-far, key-too-wide, key-not-greater, key-off-the-path, link-at-depth-W}
-use Rattle.demands.specs.Damage.{DamageRead, wayOf, EndsAt, Present, Absent, Moves, last-key, FindsLast, SecondDamage, DamageOn, NoneInSets}
+use Rattle.demands.specs.Damage.{named-from, named, Visit, root, below, visit, visitAt, Damaged, DamagedAt, link-too-far, key-too-wide, key-not-greater, key-off-the-path, link-at-depth-W}
+use Rattle.demands.specs.Damage.{wayOf, EndsAt, Absent, Moves, last-key, FindsLast, SecondDamage, DamageOn, OneRow, NoneInSets}
 use Rattle.demands.specs.Refusals.{waysOf}
 use Rattle.demands.proofs.Unfolding.{NoDamage, hanging, picked, judged-so, no-link}
 use Rattle.demands.proofs.SoundIs.{tree-intact}
 use Rattle.demands.proofs.SecondWay.{second-way-ends}
 use Rattle.demands.proofs.Meeting.{below-width, longer}
-use Rattle.demands.proofs.Whether.{fails, holds, never, both-tested, either-tested, not-tested, equal-tested, said-so, else-tested}
+use Rattle.demands.proofs.Whether.{fails, never, both-tested, not-tested, equal-tested, said-so, else-tested}
 
 -- the least key that may stand below the row with this key
 abbrev least : Perhaps ℕ → ℕ
@@ -124,7 +122,7 @@ module _ (h : Header) (table : List ℕ) where
         none-of (link-at-depth-W s bottom other) = let none-left : m ≡ 0 = omega arith in other (no-link here (rw none-left at (good .links-end)) s)
 
   abbrev Bad : ℕ → Type 0
-  Bad p = Damaged h table (visitAt h table p)
+  Bad = DamagedAt h table
 
   abbrev number : ℕ → ℕ
   number p = visitAt h table p .at
@@ -363,3 +361,13 @@ none-in-sets c h table S held = fails (rw (passes c) at (damage-tested c h table
     passes Last = last-unbroken (h .width) (shown h table) whole
     passes Audit = refl
     passes Call.List = refl
+
+pub one-row : OneRow
+unfolding damageTest waysOf has brokenIn broken way following side shown unfolded rowAt
+one-row = record { has-4 = fails (damage-tested (Has 4) h table); has-8 = damage-tested (Has 8) h table .0 refl }
+  where
+    h : Header
+    h = record { width = 4; count = 1 }
+
+    table : List ℕ
+    table = 4 ∷ 0 ∷ 9 ∷ []

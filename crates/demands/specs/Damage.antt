@@ -1,5 +1,5 @@
 -- Damage on the ways of a call, in document 01's words and over the table itself: the rows that its links name, unjudged; what is damage at such
--- a row; and the rows that a call reads. proofs/Damage.antt proves that it is met exactly where the calls test for it.
+-- a row; and the rows that a call reads. proofs/Damage.antt proves that it is there exactly where the calls test for it.
 -- Document 01: "Damage (4), for single-word calls, is exactly one of these: a link that the way follows is count or more; a row read has a key of
 -- 2^W or more, or not greater than that of the row it was reached from, or without the bits of the path to it; a row read at depth W has a link
 -- other than 0; the second way of `del` doesn't end at row count−1 with its key."
@@ -35,9 +35,9 @@ named-from rows (suc m) p i =
 unfoldable pub named : Header → List ℕ → Tree
 named h table = if eqb (h .count) 0 then none else named-from (rowAt table) (h .width) 1 0
 
--- what stands at a place
+-- what the links name at a place
 pub record Visit : Type 0 where
-  -- the row that the links name there, its depth, and the bits of the path to it as a number
+  -- the number of the row, its depth, and the bits of the path to it as a number
   pub at : ℕ
   pub depth : ℕ
   pub path : ℕ
@@ -64,6 +64,7 @@ visit rows (suc m) p = if leb p 1 then root else below rows (visit rows m (p / 2
 abbrev pub visitAt : Header → List ℕ → ℕ → Visit
 visitAt h table p = visit (rowAt table) (h .width) p
 
+-- what is damage there
 pub data Damaged (h : Header) (table : List ℕ) (v : Visit) : Type 0 where
   -- "a link that the way follows is count or more"
   link-too-far : h .count ≤ v .at → Damaged h table v
@@ -76,9 +77,12 @@ pub data Damaged (h : Header) (table : List ℕ) (v : Visit) : Type 0 where
   -- "a row read at depth W has a link other than 0;"
   link-at-depth-W : (s : Side) → v .depth ≡ h .width → ¬ (link (rowAt table (v .at)) s ≡ 0) → Damaged h table v
 
--- a place that the ways read is damaged
+abbrev pub DamagedAt : Header → List ℕ → ℕ → Type 0
+DamagedAt h table p = Damaged h table (visitAt h table p)
+
+-- a row that the ways read is damaged. (Over the links a way goes on behind such a row, which makes no difference.)
 abbrev pub DamageRead : Header → List ℕ → List Way → Type 0
-DamageRead h table ways = (p : ℕ) × (p ∈ readOf ways) × Damaged h table (visitAt h table p)
+DamageRead h table ways = (p : ℕ) × (p ∈ readOf ways) × DamagedAt h table p
 
 abbrev pub wayOf : ℕ → Header → List ℕ → Way
 wayOf k h table = way (following k) (h .width) (named h table)
@@ -127,6 +131,11 @@ DamageOn First h table = DamageRead h table (first (h .width) (named h table) .w
 DamageOn Last h table = DamageRead h table (last (h .width) (named h table) .ways)
 DamageOn Audit h table = ⊥
 DamageOn Call.List h table = ⊥
+
+-- "One row 4, 0, 9 with W 4 and count 1: `has` 4 found, 1 row; `has` 8 answers 4": a link that no way follows is no damage
+pub record OneRow : Type 0 where
+  pub has-4 : ¬ DamageOn (Has 4) (record { width = 4; count = 1 }) (4 ∷ 0 ∷ 9 ∷ [])
+  pub has-8 : DamageOn (Has 8) (record { width = 4; count = 1 }) (4 ∷ 0 ∷ 9 ∷ [])
 
 -- A table that holds a set has none.
 abbrev pub NoneInSets : Type 0

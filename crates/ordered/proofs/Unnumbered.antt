@@ -7,8 +7,8 @@ use mathlib.Core.List.{List, [], _∷_, _++_}
 use lib.Dec.{ltb}
 use lib.ListN.{length}
 use Rattle.ordered.specs.Such.{if_then_else_, Perhaps, no-such, such, first-of, only-if, last-such}
-use Rattle.ordered.specs.Word.{Side, left, right, isSide}
-use Rattle.ordered.specs.Tree.{Tree, none, row, damaged, Entry, exists, listing, unnumbered, treeOf}
+use Rattle.ordered.specs.Word.{left, right, isSide}
+use Rattle.ordered.specs.Tree.{Tree, none, row, damaged, exists, listing, unnumbered, treeOf}
 use Rattle.ordered.specs.Proper.{Proper}
 use Rattle.ordered.specs.Way.{Step, Way, Rule, Turn, stop, to, way, rows, endRows, passing, turning, joined, following, passing-equal, pushing, down, staying}
 use Rattle.ordered.specs.Reading.{Reading, rowsOf, keyAt, to-its-end, has, right-left-aside, next-by, next, left-left-aside, prev-by, prev, first, last, gap-by, gap}
