@@ -84,7 +84,8 @@ module _ (h : Header) (table : List ℕ) where
     left-over = omega arith
 
     judged-damage : judgement ≡ false → Damaged h table v
-    judged-damage = by-cases (ltb (v .at) (h .count)) (leb (least (v .above)) (here .entry .key)) (eqb (here .entry .key / 2 ^ m) (v .path)) refl refl refl
+    judged-damage =
+        by-cases (ltb (v .at) (h .count)) (leb (least (v .above)) (here .entry .key)) (eqb (here .entry .key / 2 ^ m) (v .path)) refl refl refl
       where
         not-greater : (q : Perhaps ℕ) → v .above ≡ q → leb (least q) (here .entry .key) ≡ false → Damaged h table v
         not-greater no-such above small = absurd (omega (arith, leb-false 0 (here .entry .key) small))
@@ -99,7 +100,8 @@ module _ (h : Header) (table : List ℕ) where
             by-side true e wrong = link-at-depth-W right (omega arith) (eqb-false (here .right) 0 wrong)
 
         by-cases :
-            (a b c : Bool) → ltb (v .at) (h .count) ≡ a → leb (least (v .above)) (here .entry .key) ≡ b → eqb (here .entry .key / 2 ^ m) (v .path) ≡ c
+            (a b c : Bool) → ltb (v .at) (h .count) ≡ a → leb (least (v .above)) (here .entry .key) ≡ b
+            → eqb (here .entry .key / 2 ^ m) (v .path) ≡ c
             → (a && (b && (c && ends-there m here))) ≡ false → Damaged h table v
         by-cases false b c used greater on-path wrong = link-too-far (ltb-false (v .at) (h .count) used)
         by-cases true false c used greater on-path wrong = not-greater (v .above) refl greater
@@ -119,7 +121,8 @@ module _ (h : Header) (table : List ℕ) where
             omega (arith, below-width (h .width) (v .depth) m (v .path) (here .entry .key) whole short (good .key-fits .on-path))
         none-of (key-not-greater {k} above small) = let low : suc k ≤ here .entry .key = rw above at (good .key-fits .not-below) in omega arith
         none-of (key-off-the-path off) = off (rw left-over (good .key-fits .on-path))
-        none-of (link-at-depth-W s bottom other) = let none-left : m ≡ 0 = omega arith in other (no-link here (rw none-left at (good .links-end)) s)
+        none-of (link-at-depth-W s bottom other) =
+            let none-left : m ≡ 0 = omega arith in other (no-link here (rw none-left at (good .links-end)) s)
 
   abbrev Bad : ℕ → Type 0
   Bad = DamagedAt h table
@@ -136,7 +139,8 @@ module _ (h : Header) (table : List ℕ) where
   naming zero p i s = none
   naming (suc m) p i s = linked (named-from (rowAt table) m (p * 2 + bitOf s)) (link (rowAt table i) s)
 
-  named-row : (m p i : ℕ) → named-from (rowAt table) m p i ≡ row p (record { key = rowAt table i .entry .key }) (naming m p i left) (naming m p i right)
+  named-row : (m p i : ℕ)
+      → named-from (rowAt table) m p i ≡ row p (record { key = rowAt table i .entry .key }) (naming m p i left) (naming m p i right)
   unfolding named-from
   named-row zero p i = refl
   named-row (suc m) p i = refl
@@ -206,7 +210,8 @@ broken-alone w = or-false (broken w)
 ends-tested : (k : ℕ) (w : Way) → Whether ((p : ℕ) × EndsAt k p w) (ends-at k w)
 ends-tested k w = at-end (w .end)
   where
-    at-end : (t : Tree) → Whether ((p : ℕ) × ((l : Tree) × (r : Tree) × (t ≡ row p (record { key = k }) l r))) (isThere (only-if (eqb k) (keyAt t)))
+    at-end : (t : Tree)
+        → Whether ((p : ℕ) × ((l : Tree) × (r : Tree) × (t ≡ row p (record { key = k }) l r))) (isThere (only-if (eqb k) (keyAt t)))
     at-end none = never (λ there. false≢true (ap exists (there .1 .2)))
     at-end damaged = never (λ there. false≢true (sym (ap isDamaged (there .1 .2))))
     at-end (row p e l r) =
@@ -253,7 +258,8 @@ module _ (h : Header) (table : List ℕ) where
       finds-last : Whether (FindsLast h table) (ends-at k w && eqb (number h table (numberAt (w .end))) last)
       finds-last =
           said-so there back
-          (both-tested (ends-at k w) (eqb (number h table (numberAt (w .end))) last) (ends-tested k w) (equal-tested (number h table (numberAt (w .end))) last))
+          (both-tested (ends-at k w) (eqb (number h table (numberAt (w .end))) last) (ends-tested k w)
+          (equal-tested (number h table (numberAt (w .end))) last))
         where
           there : ((p : ℕ) × EndsAt k p w) × (number h table (numberAt (w .end)) ≡ last) → FindsLast h table
           there ((p, ends), same) = (p, ends, rw (ap numberAt (ends .2)) at same)
@@ -348,7 +354,8 @@ none-in-sets c h table S held = fails (rw (passes c) at (damage-tested c h table
         moves : Bool
         moves = not (eqb (erasing (h .width) k (shown h table) .hole) (pred (h .count)))
 
-        by-count : (empty-table : Bool) → eqb (h .count) 0 ≡ empty-table → (there : Bool) → there ≡ ends-at k (way (following k) (h .width) (shown h table))
+        by-count : (no-rows : Bool) → eqb (h .count) 0 ≡ no-rows → (there : Bool)
+            → there ≡ ends-at k (way (following k) (h .width) (shown h table))
             → (there && (moves && astray h table (secondWay h table))) ≡ false
         by-count true e there finds = rw (finds, shown, e, none-there)
         by-count false e there finds =

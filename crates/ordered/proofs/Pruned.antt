@@ -212,7 +212,8 @@ module _ {Bad : ℕ → Type 0} {σ : ℕ → ℕ} where
   goes-alike f blind zero (cut {i} {e} {l} {r} bad) = breaks (i, start-read f zero (row i e l r) (List·Memᴰ·head refl), bad)
   goes-alike f blind (suc m) empty = ends no-steps empty refl
   goes-alike f blind (suc m) (kept {i} {e} {l} {r} {l′} {r′} good lefts rights) =
-      rw (blind m e l r l′ r′ (exists-same lefts) (exists-same rights)) (turned (f m e l r) (goes-alike f blind m lefts) (goes-alike f blind m rights))
+      rw (blind m e l r l′ r′ (exists-same lefts) (exists-same rights))
+      (turned (f m e l r) (goes-alike f blind m lefts) (goes-alike f blind m rights))
     where
       turned : (c : Turn) → GoesAlike Bad σ (way f m l) (way f m l′) → GoesAlike Bad σ (way f m r) (way f m r′)
           → GoesAlike Bad σ (turning (way f m) m i e l r c) (turning (way f m) m (σ i) e l′ r′ c)
@@ -252,7 +253,8 @@ module _ {Bad : ℕ → Type 0} {σ : ℕ → ℕ} where
   ways-append (one-way g gs) rest = one-way g (ways-append gs rest)
   ways-append (cut-off bad) rest = cut-off bad
 
-  cut-first : {w : Way} {ss : List Step} {m : ℕ} {ws vs : List Way} → Some Bad (readOn w) → Led w ws → Led (way-to ss m damaged) vs → AllGoAlike Bad σ ws vs
+  cut-first : {w : Way} {ss : List Step} {m : ℕ} {ws vs : List Way} → Some Bad (readOn w) → Led w ws → Led (way-to ss m damaged) vs
+      → AllGoAlike Bad σ ws vs
   cut-first bad (rest, e) (rest′, e′) = rw (e, e′) (cut-off bad)
 
   -- the last row passed with a property
@@ -343,7 +345,8 @@ module _ {Bad : ℕ → Type 0} {σ : ℕ → ℕ} where
               either (only-if (eqb k) (keyAt (w .end))) (only-if (eqb k) (keyAt (v .end))) (ap (only-if (eqb k)) (key-same end whole))
             where
               either : (q q′ : Perhaps ℕ) → q′ ≡ q
-                  → AllGoAlike Bad σ (gap-by k (prev-from k w) (next m k t) q (w ∷ []) .ways) (gap-by k (prev-from k v) (next m k t′) q′ (v ∷ []) .ways)
+                  → AllGoAlike Bad σ (gap-by k (prev-from k w) (next m k t) q (w ∷ []) .ways)
+                  (gap-by k (prev-from k v) (next m k t′) q′ (v ∷ []) .ways)
               either (such x) q′ same = rw same (one-way (ends ss end whole) no-ways)
               either no-such q′ same = rw same (ways-append before next-alike)
 

@@ -44,7 +44,9 @@ way-bare : (f : Rule) → Blind f → (m : ℕ) (t : Tree) → way f m (unnumber
 unfolding way unnumbered
 way-bare f blind zero t = refl
 way-bare f blind (suc m) none = refl
-way-bare f blind (suc m) (row i e l r) = rw (blind m e l r (unnumbered l) (unnumbered r) (exists-bare l) (exists-bare r)) (turned (f m e l r) (way-bare f blind m l) (way-bare f blind m r))
+way-bare f blind (suc m) (row i e l r) =
+    rw (blind m e l r (unnumbered l) (unnumbered r) (exists-bare l) (exists-bare r))
+    (turned (f m e l r) (way-bare f blind m l) (way-bare f blind m r))
   where
     turned : (c : Turn) → way f m (unnumbered l) ≡ bare (way f m l) → way f m (unnumbered r) ≡ bare (way f m r)
         → turning (way f m) m 0 e (unnumbered l) (unnumbered r) c ≡ bare (turning (way f m) m i e l r c)
