@@ -1,25 +1,23 @@
--- Damage in document 01's words is met exactly where the calls test for it: the tree that a table shows is the one that its links name, cut at the
--- rows that are damage.
+-- The calls test for exactly the damage of document 01 (`damage-tested`). The reason: the tree that a table shows is the tree that its links name,
+-- pruned at the damaged rows.
 use Prim.Native.Nat.{ℕ, zero, suc, _+_, _*_, _-_, _/_, _%_, _^_, _<_, _≤_, pred}
 use mathlib.Core.Path.{_≡_, refl, sym, ap, subst, _∙_}
-use mathlib.Core.Logic.{_⊎_, inl, inr}
 use mathlib.Core.Bool.{Bool, true, false, not, _&&_, _||_, or-false, and-assoc, and-false, false≢true}
 use mathlib.Core.List.{List, [], _∷_}
 use native.Mathlib.Omega.{arith}
 use lib.Dec.{ltb, leb, eqb}
-use lib.Pow.{pow-pos}
-use borrow.Author.Tests.{ltb-false, leb-false, eqb-false, ltb-true, leb-true, eqb-true, lt-leb}
+use borrow.Author.Tests.{ltb-false, leb-false, eqb-false, lt-leb}
 use Rattle.ordered.specs.Such.{if_then_else_, Perhaps, no-such, such, only-if}
-use Rattle.ordered.specs.Word.{Side, left, right, sideOf, bitOf}
+use Rattle.ordered.specs.Word.{Side, left, right, bitOf, side}
 use Rattle.ordered.specs.Said.{Whether}
 use Rattle.ordered.specs.Tree.{Tree, none, row, damaged, Entry, exists, intact}
-use Rattle.ordered.specs.Way.{Way, way, joined, broken, isDamaged, following, pushing, down}
-use Rattle.ordered.specs.Reading.{brokenIn, keyAt}
-use Rattle.ordered.specs.Change.{Erasing, adding-by, adding, erasing-by, erasing, isThere, ends-at, numberAt, entryAt}
+use Rattle.ordered.specs.Way.{Way, way, broken, isDamaged, following}
+use Rattle.ordered.specs.Reading.{brokenIn, keyAt, has}
+use Rattle.ordered.specs.Change.{Erasing, adding, erasing, isThere, ends-at, numberAt, entryAt}
 use Rattle.ordered.proofs.Ways.{unbroken}
 use Rattle.ordered.proofs.Unbroken.{has-unbroken, next-unbroken, prev-unbroken, first-unbroken, last-unbroken, gap-unbroken, adding-unbroken, erasing-unbroken}
 use Rattle.ordered.proofs.Answers.{is-there, adding-finds, erasing-finds}
-use Rattle.ordered.proofs.Pruned.{Pruned, empty, kept, cut, Gone, Added, Erased}
+use Rattle.ordered.proofs.Pruned.{Pruned, empty, kept, cut, CutWay, CutErasing}
 use Rattle.ordered.proofs.Pruned.{has-tested, next-tested, prev-tested, gap-tested, first-tested, last-tested, way-tested, adding-tested, erasing-tested}
 use Rattle.pretree.specs.declared.Header.{Header}
 use Rattle.pretree.specs.declared.Row.{Row}
@@ -28,21 +26,21 @@ use Rattle.pretree.specs.Unfold.{ends-there, judged, linked, unfolded, shown}
 use Rattle.pretree.specs.Del.{secondWay, astray}
 use Rattle.pretree.specs.declared.Call.{Call}
 use Rattle.pretree.specs.declared.Call.the-variants.{New, Add, Del, Has, Next, Prev, Gap, First, Last, Audit}
-use Rattle.demands.specs.Damage.{named-from, named, Visit, root, below, visit, visitAt, Damaged, link-too-far, key-too-wide, key-not-greater, key-off-the-path, link-at-depth-W}
-use Rattle.demands.specs.Damage.{DamageRead, wayOf, EndsAt, Present, Absent, Moves, last-key, FindsLast, SecondDamage, DamageOn, NoneInSets}
+use Rattle.demands.specs.Damage.{named-from, named, Visit, root, below, visit, visitAt, Damaged, DamagedAt, link-too-far, key-too-wide, key-not-greater, key-off-the-path, link-at-depth-W}
+use Rattle.demands.specs.Damage.{wayOf, EndsAt, Absent, Moves, last-key, FindsLast, SecondDamage, DamageOn, OneRow, NoneInSets}
 use Rattle.demands.specs.Refusals.{waysOf}
 use Rattle.demands.proofs.Unfolding.{NoDamage, hanging, picked, judged-so, no-link}
 use Rattle.demands.proofs.SoundIs.{tree-intact}
 use Rattle.demands.proofs.SecondWay.{second-way-ends}
 use Rattle.demands.proofs.Meeting.{below-width, longer}
-use Rattle.demands.proofs.Whether.{fails, holds, never, both-tested, either-tested, not-tested, equal-tested, said-so, else-tested}
+use Rattle.demands.proofs.Whether.{fails, never, both-tested, not-tested, equal-tested, said-so, else-tested}
 
--- the least key that may stand below the row with this key
+-- the least key allowed below a row with this key
 abbrev least : Perhaps ℕ → ℕ
 least no-such = 0
 least (such k) = suc k
 
--- place p is where v stands, at any depth that it may have
+-- `visit` finds v at place p, however many levels beyond its depth are allowed
 record Stands (rows : ℕ → Row) (p : ℕ) (v : Visit) : Type 0 where
   some-place : 1 ≤ p
   there : (m : ℕ) → v .depth ≤ m → visit rows m p ≡ v
@@ -74,7 +72,7 @@ module _ (rows : ℕ → Row) where
           rw (lt-leb (p * 2 + 1) 1 (omega (arith, st .some-place)), half, rest, st .there m (omega arith))
 
 module _ (h : Header) (table : List ℕ) where
-  -- a row is judged to be no damage exactly where it is none
+  -- `judged` says whether a row is undamaged
   module _ (m : ℕ) (v : Visit) (whole : v .depth + m ≡ h .width) where
     abbrev here : Row
     here = rowAt table (v .at)
@@ -86,7 +84,8 @@ module _ (h : Header) (table : List ℕ) where
     left-over = omega arith
 
     judged-damage : judgement ≡ false → Damaged h table v
-    judged-damage = by-cases (ltb (v .at) (h .count)) (leb (least (v .above)) (here .entry .key)) (eqb (here .entry .key / 2 ^ m) (v .path)) refl refl refl
+    judged-damage =
+        by-cases (ltb (v .at) (h .count)) (leb (least (v .above)) (here .entry .key)) (eqb (here .entry .key / 2 ^ m) (v .path)) refl refl refl
       where
         not-greater : (q : Perhaps ℕ) → v .above ≡ q → leb (least q) (here .entry .key) ≡ false → Damaged h table v
         not-greater no-such above small = absurd (omega (arith, leb-false 0 (here .entry .key) small))
@@ -101,7 +100,8 @@ module _ (h : Header) (table : List ℕ) where
             by-side true e wrong = link-at-depth-W right (omega arith) (eqb-false (here .right) 0 wrong)
 
         by-cases :
-            (a b c : Bool) → ltb (v .at) (h .count) ≡ a → leb (least (v .above)) (here .entry .key) ≡ b → eqb (here .entry .key / 2 ^ m) (v .path) ≡ c
+            (a b c : Bool) → ltb (v .at) (h .count) ≡ a → leb (least (v .above)) (here .entry .key) ≡ b
+            → eqb (here .entry .key / 2 ^ m) (v .path) ≡ c
             → (a && (b && (c && ends-there m here))) ≡ false → Damaged h table v
         by-cases false b c used greater on-path wrong = link-too-far (ltb-false (v .at) (h .count) used)
         by-cases true false c used greater on-path wrong = not-greater (v .above) refl greater
@@ -121,15 +121,16 @@ module _ (h : Header) (table : List ℕ) where
             omega (arith, below-width (h .width) (v .depth) m (v .path) (here .entry .key) whole short (good .key-fits .on-path))
         none-of (key-not-greater {k} above small) = let low : suc k ≤ here .entry .key = rw above at (good .key-fits .not-below) in omega arith
         none-of (key-off-the-path off) = off (rw left-over (good .key-fits .on-path))
-        none-of (link-at-depth-W s bottom other) = let none-left : m ≡ 0 = omega arith in other (no-link here (rw none-left at (good .links-end)) s)
+        none-of (link-at-depth-W s bottom other) =
+            let none-left : m ≡ 0 = omega arith in other (no-link here (rw none-left at (good .links-end)) s)
 
   abbrev Bad : ℕ → Type 0
-  Bad p = Damaged h table (visitAt h table p)
+  Bad = DamagedAt h table
 
   abbrev number : ℕ → ℕ
   number p = visitAt h table p .at
 
-  -- the tree that the table shows is the one that its links name, cut where a row is damage
+  -- the tree that is shown is the tree that is named, pruned at the damaged rows
   linked-pruned : (f g : ℕ → Tree) (j : ℕ) → Pruned Bad number (f j) (g j) → Pruned Bad number (linked f j) (linked g j)
   linked-pruned f g zero pruned = empty
   linked-pruned f g (suc j) pruned = pruned
@@ -138,7 +139,8 @@ module _ (h : Header) (table : List ℕ) where
   naming zero p i s = none
   naming (suc m) p i s = linked (named-from (rowAt table) m (p * 2 + bitOf s)) (link (rowAt table i) s)
 
-  named-row : (m p i : ℕ) → named-from (rowAt table) m p i ≡ row p (record { key = rowAt table i .entry .key }) (naming m p i left) (naming m p i right)
+  named-row : (m p i : ℕ)
+      → named-from (rowAt table) m p i ≡ row p (record { key = rowAt table i .entry .key }) (naming m p i left) (naming m p i right)
   unfolding named-from
   named-row zero p i = refl
   named-row (suc m) p i = refl
@@ -200,22 +202,23 @@ module _ (h : Header) (table : List ℕ) where
       at-zero zero = refl
       at-zero (suc m) = refl
 
-alone : (w : Way) → brokenIn (w ∷ []) ≡ broken w
+broken-alone : (w : Way) → brokenIn (w ∷ []) ≡ broken w
 unfolding brokenIn
-alone w = or-false (broken w)
+broken-alone w = or-false (broken w)
 
--- the way of k ends at k
+-- `ends-at` says whether a way ends at a row with the key k
 ends-tested : (k : ℕ) (w : Way) → Whether ((p : ℕ) × EndsAt k p w) (ends-at k w)
 ends-tested k w = at-end (w .end)
   where
-    at-end : (t : Tree) → Whether ((p : ℕ) × ((l : Tree) × (r : Tree) × (t ≡ row p (record { key = k }) l r))) (isThere (only-if (eqb k) (keyAt t)))
+    at-end : (t : Tree)
+        → Whether ((p : ℕ) × ((l : Tree) × (r : Tree) × (t ≡ row p (record { key = k }) l r))) (isThere (only-if (eqb k) (keyAt t)))
     at-end none = never (λ there. false≢true (ap exists (there .1 .2)))
     at-end damaged = never (λ there. false≢true (sym (ap isDamaged (there .1 .2))))
     at-end (row p e l r) =
         rw (is-there (eqb k (e .key)) (e .key))
         (said-so (λ same. (p, (l, r, rw same))) (λ there. sym (ap (λ t. entryAt t .key) (there .1 .2))) (equal-tested k (e .key)))
 
--- what the calls test
+-- the test that each call makes
 unfoldable pub damageTest : Call → Header → List ℕ → Bool
 damageTest (New w) h table = false
 damageTest (Add k) h table = brokenIn (waysOf (Add k) h table)
@@ -235,7 +238,7 @@ damageTest Call.List h table = false
 module _ (h : Header) (table : List ℕ) where
   second-tested : Whether (SecondDamage h table) (broken (secondWay h table) || astray h table (secondWay h table))
   unfolding secondWay astray
-  second-tested = else-tested (broken v) (astray h table v) (rw alone at (gone .exactly)) ends
+  second-tested = else-tested (broken v) (astray h table v) (rw broken-alone at (cut-way .exactly)) ends
     where
       k : ℕ
       k = last-key h table
@@ -249,13 +252,14 @@ module _ (h : Header) (table : List ℕ) where
       v : Way
       v = way (following k) (h .width) (shown h table)
 
-      gone : Gone (Bad h table) (number h table) w v
-      gone = way-tested (h .width) (shown-pruned h table) k (no-place h table)
+      cut-way : CutWay (Bad h table) (number h table) w v
+      cut-way = way-tested (h .width) (shown-pruned h table) k (no-place h table)
 
       finds-last : Whether (FindsLast h table) (ends-at k w && eqb (number h table (numberAt (w .end))) last)
       finds-last =
           said-so there back
-          (both-tested (ends-at k w) (eqb (number h table (numberAt (w .end))) last) (ends-tested k w) (equal-tested (number h table (numberAt (w .end))) last))
+          (both-tested (ends-at k w) (eqb (number h table (numberAt (w .end))) last) (ends-tested k w)
+          (equal-tested (number h table (numberAt (w .end))) last))
         where
           there : ((p : ℕ) × EndsAt k p w) × (number h table (numberAt (w .end)) ≡ last) → FindsLast h table
           there ((p, ends), same) = (p, ends, rw (ap numberAt (ends .2)) at same)
@@ -264,13 +268,13 @@ module _ (h : Header) (table : List ℕ) where
           back (p, ends, same) = ((p, ends), rw (ap numberAt (ends .2)) same)
 
       ends : broken v ≡ false → Whether (¬ FindsLast h table) (astray h table v)
-      ends whole = not-tested (ends-at k v && eqb (numberAt (v .end)) last) (rw (gone .same-key whole, gone .same-number whole) at finds-last)
+      ends whole = not-tested (ends-at k v && eqb (numberAt (v .end)) last) (rw (cut-way .same-key whole, cut-way .same-number whole) at finds-last)
 
   del-tested : (k : ℕ) → Whether (DamageOn (Del k) h table) (damageTest (Del k) h table)
   unfolding DamageOn damageTest
   del-tested k =
       else-tested (broken (e′ .rows-read)) (e′ .present && (not (eqb (e′ .hole) last) && (broken second || astray h table second)))
-      (rw alone at (erased .exactly)) moved
+      (rw broken-alone at (cut-erasing .exactly)) moved
     where
       e : Erasing
       e = erasing (h .width) k (named h table)
@@ -287,12 +291,12 @@ module _ (h : Header) (table : List ℕ) where
       second : Way
       second = secondWay h table
 
-      erased : Erased (Bad h table) (number h table) e e′
-      erased = erasing-tested (h .width) (shown-pruned h table) k (no-place h table)
+      cut-erasing : CutErasing (Bad h table) (number h table) e e′
+      cut-erasing = erasing-tested (h .width) (shown-pruned h table) k (no-place h table)
 
       moves-tested : broken (e′ .rows-read) ≡ false → Whether (Moves k h table) (e′ .present && not (eqb (e′ .hole) last))
       moves-tested whole =
-          rw (← erased .same-presence whole, ← erased .same-hole whole, erasing-finds (h .width) k (named h table))
+          rw (← cut-erasing .same-presence whole, ← cut-erasing .same-hole whole, erasing-finds (h .width) k (named h table))
           (said-so (λ m. record { present = m .0; hole-elsewhere = m .1 }) (λ m. (m .present, m .hole-elsewhere))
           (both-tested (ends-at k w) (not (eqb (number h table (e .hole)) last)) (ends-tested k w)
           (not-tested (eqb (number h table (e .hole)) last) (equal-tested (number h table (e .hole)) last))))
@@ -303,7 +307,7 @@ module _ (h : Header) (table : List ℕ) where
           rw (← and-assoc)
           (both-tested (e′ .present && not (eqb (e′ .hole) last)) (broken second || astray h table second) (moves-tested whole) second-tested)
 
--- The theorem: document 01's damage is met exactly where the calls test for it.
+-- each call tests for exactly the damage of document 01
 pub damage-tested : (c : Call) (h : Header) (table : List ℕ) → Whether (DamageOn c h table) (damageTest c h table)
 unfolding DamageOn damageTest waysOf
 damage-tested (New w) h table = never (λ no. no)
@@ -318,14 +322,14 @@ damage-tested Last h table = last-tested (h .width) (shown-pruned h table)
 damage-tested Audit h table = never (λ no. no)
 damage-tested Call.List h table = never (λ no. no)
 
--- and where `add` meets none, it tests whether the word is absent
+-- an `add` that meets no damage finds out whether its word is absent
 pub absent-tested : (k : ℕ) (h : Header) (table : List ℕ) → broken (adding (h .width) k (shown h table) .rows-read) ≡ false
     → Whether (Absent k h table) (not (adding (h .width) k (shown h table) .present))
 absent-tested k h table whole =
     rw (← adding-tested (h .width) (shown-pruned h table) k .same-presence whole, adding-finds (h .width) k (named h table))
     (not-tested (ends-at k (wayOf k h table)) (ends-tested k (wayOf k h table)))
 
--- on a table that holds a set no test is met, and the second way finds the last row
+-- no damage on a table that holds a set: no way breaks there, and the second way of a `del` finds the last row
 pub none-in-sets : NoneInSets
 unfolding damageTest waysOf secondWay way shown
 none-in-sets c h table S held = fails (rw (passes c) at (damage-tested c h table))
@@ -335,7 +339,7 @@ none-in-sets c h table S held = fails (rw (passes c) at (damage-tested c h table
 
     passes : (c : Call) → damageTest c h table ≡ false
     passes (New w) = refl
-    passes (Add k) = alone (adding (h .width) k (shown h table) .rows-read) ∙ adding-unbroken (h .width) (shown h table) whole k
+    passes (Add k) = broken-alone (adding (h .width) k (shown h table) .rows-read) ∙ adding-unbroken (h .width) (shown h table) whole k
     passes (Del k) =
         rw (erasing-unbroken (h .width) (shown h table) whole k, second-unbroken)
         (by-count (eqb (h .count) 0) refl (erasing (h .width) k (shown h table) .present) (erasing-finds (h .width) k (shown h table)))
@@ -350,7 +354,8 @@ none-in-sets c h table S held = fails (rw (passes c) at (damage-tested c h table
         moves : Bool
         moves = not (eqb (erasing (h .width) k (shown h table) .hole) (pred (h .count)))
 
-        by-count : (empty-table : Bool) → eqb (h .count) 0 ≡ empty-table → (there : Bool) → there ≡ ends-at k (way (following k) (h .width) (shown h table))
+        by-count : (no-rows : Bool) → eqb (h .count) 0 ≡ no-rows → (there : Bool)
+            → there ≡ ends-at k (way (following k) (h .width) (shown h table))
             → (there && (moves && astray h table (secondWay h table))) ≡ false
         by-count true e there finds = rw (finds, shown, e, none-there)
         by-count false e there finds =
@@ -363,3 +368,14 @@ none-in-sets c h table S held = fails (rw (passes c) at (damage-tested c h table
     passes Last = last-unbroken (h .width) (shown h table) whole
     passes Audit = refl
     passes Call.List = refl
+
+-- a test by computing; `damage-tested` covers every table
+pub one-row : OneRow
+unfolding damageTest waysOf has brokenIn broken way following side shown unfolded rowAt
+one-row = record { has-4 = fails (damage-tested (Has 4) h table); has-8 = damage-tested (Has 8) h table .0 refl }
+  where
+    h : Header
+    h = record { width = 4; count = 1 }
+
+    table : List ℕ
+    table = 4 ∷ 0 ∷ 9 ∷ []

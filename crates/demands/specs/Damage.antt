@@ -1,5 +1,5 @@
--- Damage on the ways of a call, in document 01's words and over the table itself: the rows that its links name, unjudged; what is damage at such
--- a row; and the rows that a call reads. proofs/Damage.antt proves that it is met exactly where the calls test for it.
+-- What damage is, in document 01's words, stated over the links of the table. `damage-tested` (proofs/Damage.antt) proves that the calls test for
+-- exactly this.
 -- Document 01: "Damage (4), for single-word calls, is exactly one of these: a link that the way follows is count or more; a row read has a key of
 -- 2^W or more, or not greater than that of the row it was reached from, or without the bits of the path to it; a row read at depth W has a link
 -- other than 0; the second way of `del` doesn't end at row count−1 with its key."
@@ -23,8 +23,8 @@ use Rattle.pretree.specs.declared.Call.{Call}
 use Rattle.pretree.specs.declared.Call.the-variants.{New, Add, Del, Has, Next, Prev, Gap, First, Last, Audit}
 use Rattle.demands.specs.SoundIs.{HoldsSet}
 
--- The tree that the links name, with m bits left, from row i down. A row that is named twice stands in it twice, so each has for its number the
--- place where it stands: the root is at 1, and below place p are 2p on the left and 2p + 1 on the right.
+-- The tree that the links name, from row i down with m bits left; nothing is judged. A row that two links name appears twice, so the rows are
+-- numbered by their places: the root is at place 1, and below place p are 2p on the left and 2p + 1 on the right.
 unfoldable pub named-from : (ℕ → Row) → ℕ → ℕ → ℕ → Tree
 named-from rows zero p i = row p (record { key = rows i .entry .key }) none none
 named-from rows (suc m) p i =
@@ -35,9 +35,9 @@ named-from rows (suc m) p i =
 unfoldable pub named : Header → List ℕ → Tree
 named h table = if eqb (h .count) 0 then none else named-from (rowAt table) (h .width) 1 0
 
--- what stands at a place
+-- what the links name at a place of this tree
 pub record Visit : Type 0 where
-  -- the row that the links name there, its depth, and the bits of the path to it as a number
+  -- its row number in the table, its depth, and the bits of the path to it, as a number
   pub at : ℕ
   pub depth : ℕ
   pub path : ℕ
@@ -56,7 +56,7 @@ below rows v s =
       above = such (rows (v .at) .entry .key);
     }
 
--- at place p, which is at most m deep: above it is p / 2, and p is even on the left
+-- place p, at most m levels deep. The place above it is p / 2, and p is even on the left.
 unfoldable pub visit : (ℕ → Row) → ℕ → ℕ → Visit
 visit rows zero p = root
 visit rows (suc m) p = if leb p 1 then root else below rows (visit rows m (p / 2)) (sideOf (p % 2))
@@ -64,6 +64,7 @@ visit rows (suc m) p = if leb p 1 then root else below rows (visit rows m (p / 2
 abbrev pub visitAt : Header → List ℕ → ℕ → Visit
 visitAt h table p = visit (rowAt table) (h .width) p
 
+-- the damage that one row can have
 pub data Damaged (h : Header) (table : List ℕ) (v : Visit) : Type 0 where
   -- "a link that the way follows is count or more"
   link-too-far : h .count ≤ v .at → Damaged h table v
@@ -76,9 +77,12 @@ pub data Damaged (h : Header) (table : List ℕ) (v : Visit) : Type 0 where
   -- "a row read at depth W has a link other than 0;"
   link-at-depth-W : (s : Side) → v .depth ≡ h .width → ¬ (link (rowAt table (v .at)) s ≡ 0) → Damaged h table v
 
--- a place that the ways read is damaged
+abbrev pub DamagedAt : Header → List ℕ → ℕ → Type 0
+DamagedAt h table p = Damaged h table (visitAt h table p)
+
+-- some row that the ways read is damaged. (A way over this tree goes on past a damaged row, but up to the first one it is document 01's way.)
 abbrev pub DamageRead : Header → List ℕ → List Way → Type 0
-DamageRead h table ways = (p : ℕ) × (p ∈ readOf ways) × Damaged h table (visitAt h table p)
+DamageRead h table ways = (p : ℕ) × (p ∈ readOf ways) × DamagedAt h table p
 
 abbrev pub wayOf : ℕ → Header → List ℕ → Way
 wayOf k h table = way (following k) (h .width) (named h table)
@@ -108,12 +112,12 @@ abbrev pub FindsLast : Header → List ℕ → Type 0
 FindsLast h table =
     (p : ℕ) × EndsAt (last-key h table) p (wayOf (last-key h table) h table) × (visitAt h table p .at ≡ pred (h .count))
 
--- "the second way of `del` doesn't end at row count−1 with its key", or reads a damaged row
+-- the second way reads a damaged row, or "doesn't end at row count−1 with its key"
 abbrev pub SecondDamage : Header → List ℕ → Type 0
 SecondDamage h table = DamageRead h table (wayOf (last-key h table) h table ∷ []) ⊎ ¬ FindsLast h table
 
--- The damage that each call meets. "The rows that a push or an erase passes are on the way, also when the table is full."; "`gap` answers 4 if
--- any way it needs would." (`audit` and `list` are for soundness, and `new` reads no row.)
+-- The damage on the ways of each call. "The rows that a push or an erase passes are on the way, also when the table is full."; "`gap` answers 4 if
+-- any way it needs would." (For `audit` and `list`, 4 means not sound; `new` reads no row.)
 unfoldable pub DamageOn : Call → Header → List ℕ → Type 0
 DamageOn (New w) h table = ⊥
 DamageOn (Add k) h table = DamageRead h table (adding (h .width) k (named h table) .rows-read ∷ [])
@@ -128,6 +132,11 @@ DamageOn Last h table = DamageRead h table (last (h .width) (named h table) .way
 DamageOn Audit h table = ⊥
 DamageOn Call.List h table = ⊥
 
--- A table that holds a set has none.
+-- A test: "One row 4, 0, 9 with W 4 and count 1: `has` 4 found, 1 row; `has` 8 answers 4": a link that no way follows is no damage
+pub record OneRow : Type 0 where
+  pub has-4 : ¬ DamageOn (Has 4) (record { width = 4; count = 1 }) (4 ∷ 0 ∷ 9 ∷ [])
+  pub has-8 : DamageOn (Has 8) (record { width = 4; count = 1 }) (4 ∷ 0 ∷ 9 ∷ [])
+
+-- A table that holds a set has no damage.
 abbrev pub NoneInSets : Type 0
 NoneInSets = (c : Call) (h : Header) (table S : List ℕ) → HoldsSet h table S → ¬ DamageOn c h table

@@ -1,5 +1,5 @@
--- A tree with damage beside the whole tree of which it is cut: where a row of the whole one is bad, the other has damage; each row above is
--- kept, by a number of its own. A call breaks over the cut tree exactly where it reads a bad row of the whole one.
+-- A call meets damage over a pruned tree exactly where it reads a bad row over the whole tree. (`Pruned Bad σ t t′`: t′ is the tree t with
+-- damage in place of each bad row, where row i has the number σ i.)
 use Prim.Native.Nat.{ℕ, zero, suc}
 use mathlib.Core.Path.{_≡_, refl, sym, ap}
 use mathlib.Core.Logic.{inl, inr}
@@ -21,13 +21,12 @@ abbrev pub Some : (ℕ → Type 0) → List ℕ → Type 0
 Some Bad is = (i : ℕ) × (i ∈ is) × Bad i
 
 -- the ways vs break exactly where the ways ws read a bad row
-abbrev pub Exactly : (ℕ → Type 0) → List Way → List Way → Type 0
-Exactly Bad ws vs = Whether (Some Bad (readOf ws)) (brokenIn vs)
+abbrev pub BreaksExactly : (ℕ → Type 0) → List Way → List Way → Type 0
+BreaksExactly Bad ws vs = Whether (Some Bad (readOf ws)) (brokenIn vs)
 
 abbrev way-to : List Step → ℕ → Tree → Way
 way-to ss m t = record { passed = ss; bits = m; end = t }
 
--- row i of the whole tree has the number σ i in the cut one
 module _ (Bad : ℕ → Type 0) (σ : ℕ → ℕ) where
   pub data Pruned : Tree → Tree → Type 0 where
     empty : Pruned none none
@@ -47,35 +46,36 @@ module _ (Bad : ℕ → Type 0) (σ : ℕ → ℕ) where
     neither : Found no-such no-such
     both : {s s′ : Step} → Beside s s′ → Found (such s) (such s′)
 
-  -- two ways by one rule: the one reads a bad row and the other breaks, or both pass the same rows and end alike
-  data Goes : Way → Way → Type 0 where
-    breaks : {w : Way} {ss : List Step} {m : ℕ} → Some Bad (readOn w) → Goes w (way-to ss m damaged)
+  -- a way over the whole tree and one over the pruned tree: the first reads a bad row and the second breaks, or both pass the same rows and
+  -- end alike
+  data GoesAlike : Way → Way → Type 0 where
+    breaks : {w : Way} {ss : List Step} {m : ℕ} → Some Bad (readOn w) → GoesAlike w (way-to ss m damaged)
     ends :
         {ss ss′ : List Step} {m : ℕ} {t t′ : Tree} → Steps ss ss′ → Pruned t t′ → isDamaged t′ ≡ false
-        → Goes (way-to ss m t) (way-to ss′ m t′)
+        → GoesAlike (way-to ss m t) (way-to ss′ m t′)
 
-  -- the ways of a call, one after another; after one that breaks nothing is asked of the rest
-  data Ways : List Way → List Way → Type 0 where
-    no-ways : Ways [] []
-    one-way : {w v : Way} {ws vs : List Way} → Goes w v → Ways ws vs → Ways (w ∷ ws) (v ∷ vs)
-    cut-off : {w : Way} {ss : List Step} {m : ℕ} {ws vs : List Way} → Some Bad (readOn w) → Ways (w ∷ ws) (way-to ss m damaged ∷ vs)
+  -- the same of all the ways of a call. Behind a way that breaks, the calls may part.
+  data AllGoAlike : List Way → List Way → Type 0 where
+    no-ways : AllGoAlike [] []
+    one-way : {w v : Way} {ws vs : List Way} → GoesAlike w v → AllGoAlike ws vs → AllGoAlike (w ∷ ws) (v ∷ vs)
+    cut-off : {w : Way} {ss : List Step} {m : ℕ} {ws vs : List Way} → Some Bad (readOn w) → AllGoAlike (w ∷ ws) (way-to ss m damaged ∷ vs)
 
--- what is said of one way, of `add` and of `del` beside this: where they do not break, they end alike
-pub record Gone (Bad : ℕ → Type 0) (σ : ℕ → ℕ) (w v : Way) : Type 0 where
-  pub exactly : Exactly Bad (w ∷ []) (v ∷ [])
+-- the law for one way, for `add` and for `del`: also, if the second does not break, they end alike
+pub record CutWay (Bad : ℕ → Type 0) (σ : ℕ → ℕ) (w v : Way) : Type 0 where
+  pub exactly : BreaksExactly Bad (w ∷ []) (v ∷ [])
   pub same-key : broken v ≡ false → keyAt (w .end) ≡ keyAt (v .end)
   pub same-number : broken v ≡ false → σ (numberAt (w .end)) ≡ numberAt (v .end)
 
-pub record Added (Bad : ℕ → Type 0) (a a′ : Adding) : Type 0 where
-  pub exactly : Exactly Bad (a .rows-read ∷ []) (a′ .rows-read ∷ [])
+pub record CutAdding (Bad : ℕ → Type 0) (a a′ : Adding) : Type 0 where
+  pub exactly : BreaksExactly Bad (a .rows-read ∷ []) (a′ .rows-read ∷ [])
   pub same-presence : broken (a′ .rows-read) ≡ false → a .present ≡ a′ .present
 
-pub record Erased (Bad : ℕ → Type 0) (σ : ℕ → ℕ) (a a′ : Erasing) : Type 0 where
-  pub exactly : Exactly Bad (a .rows-read ∷ []) (a′ .rows-read ∷ [])
+pub record CutErasing (Bad : ℕ → Type 0) (σ : ℕ → ℕ) (a a′ : Erasing) : Type 0 where
+  pub exactly : BreaksExactly Bad (a .rows-read ∷ []) (a′ .rows-read ∷ [])
   pub same-presence : broken (a′ .rows-read) ≡ false → a .present ≡ a′ .present
   pub same-hole : broken (a′ .rows-read) ≡ false → σ (a .hole) ≡ a′ .hole
 
--- a way by any rule reads the row from which it goes
+-- every way reads the row where it begins
 start-read : (f : Rule) (m : ℕ) (t : Tree) {i : ℕ} → i ∈ endNumber t → i ∈ readOn (way f m t)
 unfolding way readOn
 start-read f m none there = absurd (List·Memᴰ·not-nil there)
@@ -92,7 +92,7 @@ unfolding way
 at-damage f zero = refl
 at-damage f (suc m) = refl
 
--- what follows the way by which a call begins
+-- each call, given its first way
 abbrev next-from : ℕ → Way → Reading
 next-from k w = next-by w (only-if (ltb k) (keyAt (w .end))) (last-such right-left-aside (w .passed))
 
@@ -115,7 +115,7 @@ adding-from k w = adding-by k w (way pushing (w .bits) (w .end)) (onward pushing
 abbrev erasing-from : Way → Bool → Erasing
 erasing-from w = erasing-by w (way (down left) (w .bits) (w .end)) (onward (down left) w)
 
--- that way is the first of its ways
+-- the ways ws begin with w
 abbrev Led : Way → List Way → Type 0
 Led w ws = (rest : List Way) × (ws ≡ w ∷ rest)
 
@@ -149,7 +149,7 @@ gap-led k w after = led (only-if (eqb k) (keyAt (w .end)))
     led no-such = let (rest, e) = prev-led k w in (rest ++ after .ways, rw e)
 
 module _ {Bad : ℕ → Type 0} where
-  -- a way that goes on reads what it read
+  -- a way that goes on has still read its rows
   bad-onward : (g : Rule) (w : Way) → Some Bad (readOn w) → Some Bad (readOn (onward g w))
   unfolding readOn joined
   bad-onward g w (i, there, bad) = (i, still (w .passed) there, bad)
@@ -166,9 +166,9 @@ module _ {Bad : ℕ → Type 0} where
   none-cons good rest (j, List·Memᴰ·head same, bad) = good (rw same at bad)
   none-cons good rest (j, List·Memᴰ·tail there, bad) = rest (j, there, bad)
 
-  -- no number of the first list is bad
-  past : (is js : List ℕ) {b : Bool} → ¬ Some Bad is → Whether (Some Bad js) b → Whether (Some Bad (is ++ js)) b
-  past is js {b} good w = (λ e. behind (w .0 e), further)
+  -- a list in which no number is bad may be left out
+  skip-good : (is js : List ℕ) {b : Bool} → ¬ Some Bad is → Whether (Some Bad js) b → Whether (Some Bad (is ++ js)) b
+  skip-good is js {b} good w = (λ e. behind (w .0 e), further)
     where
       behind : Some Bad js → Some Bad (is ++ js)
       behind (i, there, bad) = (i, Memᴰ·append-right is there, bad)
@@ -183,12 +183,12 @@ module _ {Bad : ℕ → Type 0} {σ : ℕ → ℕ} where
   exists-same (kept good lefts rights) = refl
   exists-same (cut bad) = refl
 
-  passing-goes : {s s′ : Step} {w v : Way} → Beside Bad σ s s′ → Goes Bad σ w v → Goes Bad σ (passing s w) (passing s′ v)
+  passing-alike : {s s′ : Step} {w v : Way} → Beside Bad σ s s′ → GoesAlike Bad σ w v → GoesAlike Bad σ (passing s w) (passing s′ v)
   unfolding readOn
-  passing-goes b (breaks (i, there, bad)) = breaks (i, List·Memᴰ·tail there, bad)
-  passing-goes b (ends ss end whole) = ends (steps b ss) end whole
+  passing-alike b (breaks (i, there, bad)) = breaks (i, List·Memᴰ·tail there, bad)
+  passing-alike b (ends ss end whole) = ends (steps b ss) end whole
 
-  -- where the other tree has no damage, the two are alike
+  -- a pruned tree that is not damage itself has the same row at its root
   end-good : {t t′ : Tree} → Pruned Bad σ t t′ → isDamaged t′ ≡ false → ¬ Some Bad (endNumber t)
   end-good empty whole = none-empty
   end-good (kept good lefts rights) whole = none-cons good none-empty
@@ -204,58 +204,60 @@ module _ {Bad : ℕ → Type 0} {σ : ℕ → ℕ} where
   number-same zero-same (kept good lefts rights) whole = refl
   number-same zero-same (cut bad) whole = absurd (false≢true (sym whole))
 
-  -- one law for the ways by every rule
-  goes : (f : Rule) → Blind f → (m : ℕ) {t t′ : Tree} → Pruned Bad σ t t′ → Goes Bad σ (way f m t) (way f m t′)
+  -- the law for one way, by every rule
+  goes-alike : (f : Rule) → Blind f → (m : ℕ) {t t′ : Tree} → Pruned Bad σ t t′ → GoesAlike Bad σ (way f m t) (way f m t′)
   unfolding way
-  goes f blind zero empty = ends no-steps empty refl
-  goes f blind zero (kept good lefts rights) = ends no-steps (kept good lefts rights) refl
-  goes f blind zero (cut {i} {e} {l} {r} bad) = breaks (i, start-read f zero (row i e l r) (List·Memᴰ·head refl), bad)
-  goes f blind (suc m) empty = ends no-steps empty refl
-  goes f blind (suc m) (kept {i} {e} {l} {r} {l′} {r′} good lefts rights) =
-      rw (blind m e l r l′ r′ (exists-same lefts) (exists-same rights)) (turned (f m e l r) (goes f blind m lefts) (goes f blind m rights))
+  goes-alike f blind zero empty = ends no-steps empty refl
+  goes-alike f blind zero (kept good lefts rights) = ends no-steps (kept good lefts rights) refl
+  goes-alike f blind zero (cut {i} {e} {l} {r} bad) = breaks (i, start-read f zero (row i e l r) (List·Memᴰ·head refl), bad)
+  goes-alike f blind (suc m) empty = ends no-steps empty refl
+  goes-alike f blind (suc m) (kept {i} {e} {l} {r} {l′} {r′} good lefts rights) =
+      rw (blind m e l r l′ r′ (exists-same lefts) (exists-same rights))
+      (turned (f m e l r) (goes-alike f blind m lefts) (goes-alike f blind m rights))
     where
-      turned : (c : Turn) → Goes Bad σ (way f m l) (way f m l′) → Goes Bad σ (way f m r) (way f m r′)
-          → Goes Bad σ (turning (way f m) m i e l r c) (turning (way f m) m (σ i) e l′ r′ c)
+      turned : (c : Turn) → GoesAlike Bad σ (way f m l) (way f m l′) → GoesAlike Bad σ (way f m r) (way f m r′)
+          → GoesAlike Bad σ (turning (way f m) m i e l r c) (turning (way f m) m (σ i) e l′ r′ c)
       turned stop on-left on-right = ends no-steps (kept good lefts rights) refl
-      turned (to left) on-left on-right = passing-goes (beside good lefts rights) on-left
-      turned (to right) on-left on-right = passing-goes (beside good lefts rights) on-right
-  goes f blind (suc m) (cut {i} {e} {l} {r} bad) = breaks (i, start-read f (suc m) (row i e l r) (List·Memᴰ·head refl), bad)
+      turned (to left) on-left on-right = passing-alike (beside good lefts rights) on-left
+      turned (to right) on-left on-right = passing-alike (beside good lefts rights) on-right
+  goes-alike f blind (suc m) (cut {i} {e} {l} {r} bad) = breaks (i, start-read f (suc m) (row i e l r) (List·Memᴰ·head refl), bad)
 
-  joined-goes : {ss ss′ : List Step} (m : ℕ) (t t′ : Tree) {w v : Way} → Steps Bad σ ss ss′ → Goes Bad σ w v
-      → Goes Bad σ (joined (way-to ss m t) w) (joined (way-to ss′ m t′) v)
+  joined-alike : {ss ss′ : List Step} (m : ℕ) (t t′ : Tree) {w v : Way} → Steps Bad σ ss ss′ → GoesAlike Bad σ w v
+      → GoesAlike Bad σ (joined (way-to ss m t) w) (joined (way-to ss′ m t′) v)
   unfolding joined
-  joined-goes m t t′ no-steps g = g
-  joined-goes m t t′ (steps b ss) g = passing-goes b (joined-goes m t t′ ss g)
+  joined-alike m t t′ no-steps g = g
+  joined-alike m t t′ (steps b ss) g = passing-alike b (joined-alike m t t′ ss g)
 
-  goes-on : (g : Rule) → Blind g → {w v : Way} → Goes Bad σ w v → Goes Bad σ (onward g w) (onward g v)
+  onward-alike : (g : Rule) → Blind g → {w v : Way} → GoesAlike Bad σ w v → GoesAlike Bad σ (onward g w) (onward g v)
   unfolding joined
-  goes-on g blind (breaks {w} {m} bad) = rw (at-damage g m) (breaks (bad-onward g w bad))
-  goes-on g blind (ends {m} {t} {t′} ss end whole) = joined-goes m t t′ ss (goes g blind m end)
+  onward-alike g blind (breaks {w} {m} bad) = rw (at-damage g m) (breaks (bad-onward g w bad))
+  onward-alike g blind (ends {m} {t} {t′} ss end whole) = joined-alike m t t′ ss (goes-alike g blind m end)
 
   none-bad : {ss ss′ : List Step} {is : List ℕ} → Steps Bad σ ss ss′ → ¬ Some Bad is → ¬ Some Bad (map (λ s. s .at) ss ++ is)
   none-bad no-steps rest = rest
   none-bad (steps (beside good lefts rights) ss) rest = none-cons good (none-bad ss rest)
 
-  ways-tested : {ws vs : List Way} → Ways Bad σ ws vs → Exactly Bad ws vs
+  ways-tested : {ws vs : List Way} → AllGoAlike Bad σ ws vs → BreaksExactly Bad ws vs
   unfolding readOf readOn brokenIn broken
   ways-tested no-ways = (λ e. absurd (false≢true e), λ some. absurd (none-empty some))
   ways-tested (cut-off {ws} (i, there, bad)) = (λ e. (i, Memᴰ·append-left (readOf ws) there, bad), λ some. refl)
   ways-tested (one-way {ws} (breaks (i, there, bad)) rest) = (λ e. (i, Memᴰ·append-left (readOf ws) there, bad), λ some. refl)
   ways-tested (one-way {w} {ws} (ends ss end whole) rest) =
-      rw whole (past (readOn w) (readOf ws) (none-bad ss (end-good end whole)) (ways-tested rest))
+      rw whole (skip-good (readOn w) (readOf ws) (none-bad ss (end-good end whole)) (ways-tested rest))
 
-  alone : {w v : Way} → Goes Bad σ w v → Exactly Bad (w ∷ []) (v ∷ [])
-  alone g = ways-tested (one-way g no-ways)
+  one-tested : {w v : Way} → GoesAlike Bad σ w v → BreaksExactly Bad (w ∷ []) (v ∷ [])
+  one-tested g = ways-tested (one-way g no-ways)
 
-  ways-append : {ws vs ws′ vs′ : List Way} → Ways Bad σ ws vs → Ways Bad σ ws′ vs′ → Ways Bad σ (ws ++ ws′) (vs ++ vs′)
+  ways-append : {ws vs ws′ vs′ : List Way} → AllGoAlike Bad σ ws vs → AllGoAlike Bad σ ws′ vs′ → AllGoAlike Bad σ (ws ++ ws′) (vs ++ vs′)
   ways-append no-ways rest = rest
   ways-append (one-way g gs) rest = one-way g (ways-append gs rest)
   ways-append (cut-off bad) rest = cut-off bad
 
-  off : {w : Way} {ss : List Step} {m : ℕ} {ws vs : List Way} → Some Bad (readOn w) → Led w ws → Led (way-to ss m damaged) vs → Ways Bad σ ws vs
-  off bad (rest, e) (rest′, e′) = rw (e, e′) (cut-off bad)
+  cut-first : {w : Way} {ss : List Step} {m : ℕ} {ws vs : List Way} → Some Bad (readOn w) → Led w ws → Led (way-to ss m damaged) vs
+      → AllGoAlike Bad σ ws vs
+  cut-first bad (rest, e) (rest′, e′) = rw (e, e′) (cut-off bad)
 
-  -- what is sought among the rows passed
+  -- the last row passed with a property
   found : (p : Step → Bool) → ((s s′ : Step) → Beside Bad σ s s′ → p s′ ≡ p s) → {ss ss′ : List Step} → Steps Bad σ ss ss′
       → Found Bad σ (last-such p ss) (last-such p ss′)
   unfolding last-such
@@ -268,43 +270,43 @@ module _ {Bad : ℕ → Type 0} {σ : ℕ → ℕ} where
       either neither false = neither
       either (both b′) c = both b′
 
-  next-by-goes : {w v : Way} {p p′ : Perhaps Step} → Goes Bad σ w v → (q : Perhaps ℕ) → Found Bad σ p p′
-      → Ways Bad σ (next-by w q p .ways) (next-by v q p′ .ways)
-  next-by-goes g (such x) f = one-way g no-ways
-  next-by-goes g no-such neither = one-way g (one-way (ends no-steps empty refl) no-ways)
-  next-by-goes g no-such (both (beside {m} good lefts rights)) = one-way g (one-way (goes staying staying-blind m rights) no-ways)
+  next-by-alike : {w v : Way} {p p′ : Perhaps Step} → GoesAlike Bad σ w v → (q : Perhaps ℕ) → Found Bad σ p p′
+      → AllGoAlike Bad σ (next-by w q p .ways) (next-by v q p′ .ways)
+  next-by-alike g (such x) f = one-way g no-ways
+  next-by-alike g no-such neither = one-way g (one-way (ends no-steps empty refl) no-ways)
+  next-by-alike g no-such (both (beside {m} good lefts rights)) = one-way g (one-way (goes-alike staying staying-blind m rights) no-ways)
 
-  prev-by-goes : {w v : Way} {p p′ : Perhaps Step} → Goes Bad σ w v → (q : Perhaps ℕ) → Found Bad σ p p′
-      → Ways Bad σ (prev-by w q p .ways) (prev-by v q p′ .ways)
-  prev-by-goes g (such x) f = one-way g no-ways
-  prev-by-goes g no-such neither = one-way g no-ways
-  prev-by-goes {w} {v} g no-such (both (beside {m} {e} {l} {l′} {s} good lefts rights)) =
+  prev-by-alike : {w v : Way} {p p′ : Perhaps Step} → GoesAlike Bad σ w v → (q : Perhaps ℕ) → Found Bad σ p p′
+      → AllGoAlike Bad σ (prev-by w q p .ways) (prev-by v q p′ .ways)
+  prev-by-alike g (such x) f = one-way g no-ways
+  prev-by-alike g no-such neither = one-way g no-ways
+  prev-by-alike {w} {v} g no-such (both (beside {m} {e} {l} {l′} {s} good lefts rights)) =
       rw (exists-same lefts) (either (isSide right s && exists l))
     where
       aside : Bool → Way → Tree → Reading
       aside b w t = if b then to-its-end (w ∷ []) (way (down right) m t) else record { ways = w ∷ []; answer = such (e .key) }
 
-      either : (b : Bool) → Ways Bad σ (aside b w l .ways) (aside b v l′ .ways)
-      either true = one-way g (one-way (goes (down right) (down-blind right) m lefts) no-ways)
+      either : (b : Bool) → AllGoAlike Bad σ (aside b w l .ways) (aside b v l′ .ways)
+      either true = one-way g (one-way (goes-alike (down right) (down-blind right) m lefts) no-ways)
       either false = one-way g no-ways
 
-  -- the laws, for every call with m bits left
+  -- the laws of the calls, over trees with m bits left
   module _ (m : ℕ) {t t′ : Tree} (pruned : Pruned Bad σ t t′) where
-    pub first-tested : Exactly Bad (first m t .ways) (first m t′ .ways)
+    pub first-tested : BreaksExactly Bad (first m t .ways) (first m t′ .ways)
     unfolding first
-    first-tested = alone (goes staying staying-blind m pruned)
+    first-tested = one-tested (goes-alike staying staying-blind m pruned)
 
-    pub last-tested : Exactly Bad (last m t .ways) (last m t′ .ways)
+    pub last-tested : BreaksExactly Bad (last m t .ways) (last m t′ .ways)
     unfolding last
-    last-tested = alone (goes (down right) (down-blind right) m pruned)
+    last-tested = one-tested (goes-alike (down right) (down-blind right) m pruned)
 
     module _ (k : ℕ) where
-      the-way : Goes Bad σ (way (following k) m t) (way (following k) m t′)
-      the-way = goes (following k) (following-blind k) m pruned
+      the-way : GoesAlike Bad σ (way (following k) m t) (way (following k) m t′)
+      the-way = goes-alike (following k) (following-blind k) m pruned
 
-      next-goes : Ways Bad σ (next m k t .ways) (next m k t′ .ways)
+      next-alike : AllGoAlike Bad σ (next m k t .ways) (next m k t′ .ways)
       unfolding next
-      next-goes = by-way (goes (passing-equal k) (passing-equal-blind k) m pruned)
+      next-alike = by-way (goes-alike (passing-equal k) (passing-equal-blind k) m pruned)
         where
           sought : {ss ss′ : List Step} → Steps Bad σ ss ss′ → Found Bad σ (last-such right-left-aside ss) (last-such right-left-aside ss′)
           sought = found right-left-aside same
@@ -312,14 +314,14 @@ module _ {Bad : ℕ → Type 0} {σ : ℕ → ℕ} where
               same : (s s′ : Step) → Beside Bad σ s s′ → right-left-aside s′ ≡ right-left-aside s
               same s s′ (beside good lefts rights) = rw (exists-same rights)
 
-          by-way : {w v : Way} → Goes Bad σ w v → Ways Bad σ (next-from k w .ways) (next-from k v .ways)
-          by-way (breaks {w} {ss} {m} bad) = off bad (next-led k w) (next-led k (way-to ss m damaged))
+          by-way : {w v : Way} → GoesAlike Bad σ w v → AllGoAlike Bad σ (next-from k w .ways) (next-from k v .ways)
+          by-way (breaks {w} {ss} {m} bad) = cut-first bad (next-led k w) (next-led k (way-to ss m damaged))
           by-way (ends {t} ss end whole) =
-              rw (key-same end whole) (next-by-goes (ends ss end whole) (only-if (ltb k) (keyAt t)) (sought ss))
+              rw (key-same end whole) (next-by-alike (ends ss end whole) (only-if (ltb k) (keyAt t)) (sought ss))
 
-      prev-goes : Ways Bad σ (prev m k t .ways) (prev m k t′ .ways)
+      prev-alike : AllGoAlike Bad σ (prev m k t .ways) (prev m k t′ .ways)
       unfolding prev
-      prev-goes = by-way the-way
+      prev-alike = by-way the-way
         where
           sought : {ss ss′ : List Step} → Steps Bad σ ss ss′ → Found Bad σ (last-such (lower-key k) ss) (last-such (lower-key k) ss′)
           sought = found (lower-key k) same
@@ -327,103 +329,104 @@ module _ {Bad : ℕ → Type 0} {σ : ℕ → ℕ} where
               same : (s s′ : Step) → Beside Bad σ s s′ → lower-key k s′ ≡ lower-key k s
               same s s′ (beside good lefts rights) = refl
 
-          by-way : {w v : Way} → Goes Bad σ w v → Ways Bad σ (prev-from k w .ways) (prev-from k v .ways)
-          by-way (breaks {w} {ss} {m} bad) = off bad (prev-led k w) (prev-led k (way-to ss m damaged))
+          by-way : {w v : Way} → GoesAlike Bad σ w v → AllGoAlike Bad σ (prev-from k w .ways) (prev-from k v .ways)
+          by-way (breaks {w} {ss} {m} bad) = cut-first bad (prev-led k w) (prev-led k (way-to ss m damaged))
           by-way (ends {t} ss end whole) =
-              rw (key-same end whole) (prev-by-goes (ends ss end whole) (only-if (λ x. ltb x k) (keyAt t)) (sought ss))
+              rw (key-same end whole) (prev-by-alike (ends ss end whole) (only-if (λ x. ltb x k) (keyAt t)) (sought ss))
 
-      gap-goes : Ways Bad σ (gap m k t .ways) (gap m k t′ .ways)
+      gap-alike : AllGoAlike Bad σ (gap m k t .ways) (gap m k t′ .ways)
       unfolding gap has prev
-      gap-goes = by-way the-way prev-goes
+      gap-alike = by-way the-way prev-alike
         where
-          by-way : {w v : Way} → Goes Bad σ w v → Ways Bad σ (prev-from k w .ways) (prev-from k v .ways)
-              → Ways Bad σ (gap-from k w (next m k t) .ways) (gap-from k v (next m k t′) .ways)
-          by-way (breaks {w} {ss} {m = n} bad) before = off bad (gap-led k w (next m k t)) (gap-led k (way-to ss n damaged) (next m k t′))
+          by-way : {w v : Way} → GoesAlike Bad σ w v → AllGoAlike Bad σ (prev-from k w .ways) (prev-from k v .ways)
+              → AllGoAlike Bad σ (gap-from k w (next m k t) .ways) (gap-from k v (next m k t′) .ways)
+          by-way (breaks {w} {ss} {m = n} bad) before = cut-first bad (gap-led k w (next m k t)) (gap-led k (way-to ss n damaged) (next m k t′))
           by-way {w} {v} (ends ss end whole) before =
               either (only-if (eqb k) (keyAt (w .end))) (only-if (eqb k) (keyAt (v .end))) (ap (only-if (eqb k)) (key-same end whole))
             where
               either : (q q′ : Perhaps ℕ) → q′ ≡ q
-                  → Ways Bad σ (gap-by k (prev-from k w) (next m k t) q (w ∷ []) .ways) (gap-by k (prev-from k v) (next m k t′) q′ (v ∷ []) .ways)
+                  → AllGoAlike Bad σ (gap-by k (prev-from k w) (next m k t) q (w ∷ []) .ways)
+                  (gap-by k (prev-from k v) (next m k t′) q′ (v ∷ []) .ways)
               either (such x) q′ same = rw same (one-way (ends ss end whole) no-ways)
-              either no-such q′ same = rw same (ways-append before next-goes)
+              either no-such q′ same = rw same (ways-append before next-alike)
 
-      pub has-tested : Exactly Bad (has m k t .ways) (has m k t′ .ways)
+      pub has-tested : BreaksExactly Bad (has m k t .ways) (has m k t′ .ways)
       unfolding has
-      has-tested = alone the-way
+      has-tested = one-tested the-way
 
-      pub next-tested : Exactly Bad (next m k t .ways) (next m k t′ .ways)
-      next-tested = ways-tested next-goes
+      pub next-tested : BreaksExactly Bad (next m k t .ways) (next m k t′ .ways)
+      next-tested = ways-tested next-alike
 
-      pub prev-tested : Exactly Bad (prev m k t .ways) (prev m k t′ .ways)
-      prev-tested = ways-tested prev-goes
+      pub prev-tested : BreaksExactly Bad (prev m k t .ways) (prev m k t′ .ways)
+      prev-tested = ways-tested prev-alike
 
-      pub gap-tested : Exactly Bad (gap m k t .ways) (gap m k t′ .ways)
-      gap-tested = ways-tested gap-goes
+      pub gap-tested : BreaksExactly Bad (gap m k t .ways) (gap m k t′ .ways)
+      gap-tested = ways-tested gap-alike
 
-      pub adding-tested : Added Bad (adding m k t) (adding m k t′)
+      pub adding-tested : CutAdding Bad (adding m k t) (adding m k t′)
       unfolding adding joined broken
       adding-tested = by-way the-way
         where
-          by-way : {w v : Way} → Goes Bad σ w v → Added Bad (adding-from k w (ends-at k w)) (adding-from k v (ends-at k v))
+          by-way : {w v : Way} → GoesAlike Bad σ w v → CutAdding Bad (adding-from k w (ends-at k w)) (adding-from k v (ends-at k v))
           by-way (breaks {w} {ss} {m} bad) = rw (at-damage pushing m) (either (ends-at k w))
             where
               either : (b : Bool)
-                  → Added Bad (adding-from k w b) (adding-by k (way-to ss m damaged) (way-to [] m damaged) (way-to (ss ++ []) m damaged) false)
-              either true = record { exactly = alone (breaks bad); same-presence = λ unbroken. absurd (false≢true (sym unbroken)) }
+                  → CutAdding Bad (adding-from k w b) (adding-by k (way-to ss m damaged) (way-to [] m damaged) (way-to (ss ++ []) m damaged) false)
+              either true = record { exactly = one-tested (breaks bad); same-presence = λ unbroken. absurd (false≢true (sym unbroken)) }
               either false =
-                  record { exactly = alone (breaks (bad-onward pushing w bad)); same-presence = λ unbroken. absurd (false≢true (sym unbroken)) }
+                  record { exactly = one-tested (breaks (bad-onward pushing w bad)); same-presence = λ unbroken. absurd (false≢true (sym unbroken)) }
           by-way {w} {v} (ends ss end whole) = rw (key-same end whole) (either (ends-at k w))
             where
-              either : (b : Bool) → Added Bad (adding-from k w b) (adding-from k v b)
-              either true = record { exactly = alone (ends ss end whole); same-presence = λ unbroken. refl }
-              either false = record { exactly = alone (goes-on pushing pushing-blind (ends ss end whole)); same-presence = λ unbroken. refl }
+              either : (b : Bool) → CutAdding Bad (adding-from k w b) (adding-from k v b)
+              either true = record { exactly = one-tested (ends ss end whole); same-presence = λ unbroken. refl }
+              either false = record { exactly = one-tested (onward-alike pushing pushing-blind (ends ss end whole)); same-presence = λ unbroken. refl }
 
-      -- a tree that is none has the number 0
+      -- `numberAt` an empty tree is 0
       module _ (zero-same : σ 0 ≡ 0) where
-        gone : {w v : Way} → Goes Bad σ w v → Gone Bad σ w v
+        cut-way : {w v : Way} → GoesAlike Bad σ w v → CutWay Bad σ w v
         unfolding broken
-        gone (breaks {w} {ss} {m} bad) =
+        cut-way (breaks {w} {ss} {m} bad) =
             record {
-              exactly = alone (breaks bad);
+              exactly = one-tested (breaks bad);
               same-key = λ unbroken. absurd (false≢true (sym unbroken));
               same-number = λ unbroken. absurd (false≢true (sym unbroken));
             }
-        gone (ends ss end whole) =
+        cut-way (ends ss end whole) =
             record {
-              exactly = alone (ends ss end whole);
+              exactly = one-tested (ends ss end whole);
               same-key = λ unbroken. sym (key-same end whole);
               same-number = λ unbroken. sym (number-same zero-same end whole);
             }
 
-        pub way-tested : Gone Bad σ (way (following k) m t) (way (following k) m t′)
-        way-tested = gone the-way
+        pub way-tested : CutWay Bad σ (way (following k) m t) (way (following k) m t′)
+        way-tested = cut-way the-way
 
-        pub erasing-tested : Erased Bad σ (erasing m k t) (erasing m k t′)
+        pub erasing-tested : CutErasing Bad σ (erasing m k t) (erasing m k t′)
         unfolding erasing joined broken
         erasing-tested = by-way the-way
           where
-            by-way : {w v : Way} → Goes Bad σ w v → Erased Bad σ (erasing-from w (ends-at k w)) (erasing-from v (ends-at k v))
+            by-way : {w v : Way} → GoesAlike Bad σ w v → CutErasing Bad σ (erasing-from w (ends-at k w)) (erasing-from v (ends-at k v))
             by-way (breaks {w} {ss} {m} bad) = either (ends-at k w)
               where
-                broke : {a : Erasing} → Some Bad (readOn (a .rows-read)) → Erased Bad σ a (erasing-from (way-to ss m damaged) false)
+                broke : {a : Erasing} → Some Bad (readOn (a .rows-read)) → CutErasing Bad σ a (erasing-from (way-to ss m damaged) false)
                 broke bad =
                     record {
-                      exactly = alone (breaks bad);
+                      exactly = one-tested (breaks bad);
                       same-presence = λ unbroken. absurd (false≢true (sym unbroken));
                       same-hole = λ unbroken. absurd (false≢true (sym unbroken));
                     }
 
-                either : (b : Bool) → Erased Bad σ (erasing-from w b) (erasing-from (way-to ss m damaged) false)
+                either : (b : Bool) → CutErasing Bad σ (erasing-from w b) (erasing-from (way-to ss m damaged) false)
                 either true = broke (bad-onward (down left) w bad)
                 either false = broke bad
             by-way {w} {v} (ends {m} ss end whole) = rw (key-same end whole) (either (ends-at k w))
               where
-                either : (b : Bool) → Erased Bad σ (erasing-from w b) (erasing-from v b)
+                either : (b : Bool) → CutErasing Bad σ (erasing-from w b) (erasing-from v b)
                 either true =
                     record {
-                      exactly = alone (goes-on (down left) (down-blind left) (ends ss end whole));
+                      exactly = one-tested (onward-alike (down left) (down-blind left) (ends ss end whole));
                       same-presence = λ unbroken. refl;
-                      same-hole = gone (goes (down left) (down-blind left) m end) .same-number;
+                      same-hole = cut-way (goes-alike (down left) (down-blind left) m end) .same-number;
                     }
                 either false =
-                    record { exactly = alone (ends ss end whole); same-presence = λ unbroken. refl; same-hole = λ unbroken. zero-same }
+                    record { exactly = one-tested (ends ss end whole); same-presence = λ unbroken. refl; same-hole = λ unbroken. zero-same }

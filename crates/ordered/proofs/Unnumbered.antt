@@ -7,8 +7,8 @@ use mathlib.Core.List.{List, [], _∷_, _++_}
 use lib.Dec.{ltb}
 use lib.ListN.{length}
 use Rattle.ordered.specs.Such.{if_then_else_, Perhaps, no-such, such, first-of, only-if, last-such}
-use Rattle.ordered.specs.Word.{Side, left, right, isSide}
-use Rattle.ordered.specs.Tree.{Tree, none, row, damaged, Entry, exists, listing, unnumbered, treeOf}
+use Rattle.ordered.specs.Word.{left, right, isSide}
+use Rattle.ordered.specs.Tree.{Tree, none, row, damaged, exists, listing, unnumbered, treeOf}
 use Rattle.ordered.specs.Proper.{Proper}
 use Rattle.ordered.specs.Way.{Step, Way, Rule, Turn, stop, to, way, rows, endRows, passing, turning, joined, following, passing-equal, pushing, down, staying}
 use Rattle.ordered.specs.Reading.{Reading, rowsOf, keyAt, to-its-end, has, right-left-aside, next-by, next, left-left-aside, prev-by, prev, first, last, gap-by, gap}
@@ -44,7 +44,9 @@ way-bare : (f : Rule) → Blind f → (m : ℕ) (t : Tree) → way f m (unnumber
 unfolding way unnumbered
 way-bare f blind zero t = refl
 way-bare f blind (suc m) none = refl
-way-bare f blind (suc m) (row i e l r) = rw (blind m e l r (unnumbered l) (unnumbered r) (exists-bare l) (exists-bare r)) (turned (f m e l r) (way-bare f blind m l) (way-bare f blind m r))
+way-bare f blind (suc m) (row i e l r) =
+    rw (blind m e l r (unnumbered l) (unnumbered r) (exists-bare l) (exists-bare r))
+    (turned (f m e l r) (way-bare f blind m l) (way-bare f blind m r))
   where
     turned : (c : Turn) → way f m (unnumbered l) ≡ bare (way f m l) → way f m (unnumbered r) ≡ bare (way f m r)
         → turning (way f m) m 0 e (unnumbered l) (unnumbered r) c ≡ bare (turning (way f m) m i e l r c)
