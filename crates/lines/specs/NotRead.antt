@@ -47,7 +47,7 @@ pub record Refused (s : State) (a : Step) : Type 0 where
 
 -- in every state, for every line
 pub record AnswersNine (s : State) (line : List ℕ) : Type 0 where
-  -- a line is read as the call that it spells, and "anything else" is not read
+  -- a line is read as the call that it spells, and "Anything else [..] is answer 9."
   pub read : (call : Call) → (parse line ≡ Read call) ↔ Spells call line
   pub unread : (parse line ≡ Unread) ↔ ((call : Call) → Spells call line → ⊥)
   -- 9 is the answer exactly where a line is not read
