@@ -39,7 +39,7 @@ pub fn run() {
     };
     while 0 < turns {
         let count = read(&mut input);
-        spoke = turn(
+        spoke = take_in(
             spoke.session,
             count,
             &mut input,
@@ -74,7 +74,7 @@ fn turns_left(turns: u64, count: usize, written: bool) -> u64
 }
 
 // Takes in what a read of `count` bytes left in `input`.
-fn turn(
+fn take_in(
     session: Session,
     count: usize,
     input: &mut [u8],

@@ -13,8 +13,8 @@ Inv-loop table₀ words₀ buffer₀ input₀ out₀ turns₀ spoke₀ table wor
 abbrev μ-loop : tie.MeasureT-loop
 μ-loop table₀ words₀ buffer₀ input₀ out₀ turns₀ spoke₀ table words buffer input out turns spoke = turns
 
-turn-requires : tie.Need-turn-requires Inv-loop μ-loop
-turn-requires c κs =
+take-in-requires : tie.Need-take-in-requires Inv-loop μ-loop
+take-in-requires c κs =
     let i = c .before .before .before .before .before .before .before .before .before .loop .inv in
     let p = c .before .before .before .before .before .before .read in
     let fits = may-read i (p .last .0) (p .kept .0) (c .before .before .before .before .before .before .before .before .loop-test .taken) in
@@ -24,7 +24,7 @@ loop-again : tie.Need-loop-again Inv-loop μ-loop
 loop-again c =
     let i = c .before .before .before .before .before .before .before .before .before .before .before .before .before .before .before .before .loop .inv in
     let p = c .before .before .before .before .before .before .before .before .before .before .before .before .before .read in
-    let k = c .before .before .before .before .before .before .turn in
+    let k = c .before .before .before .before .before .before .take-in in
     rw (c .turns-left .ensures) (
     read-on i (p .last .0) (p .kept .0) (p .result) (k .ensures) (c .before .before .before .before .before .before .before .before .before .before .before .before .before .before .before .loop-test .taken) (k .kept .1 .1 .1 .0) (k .kept .1 .1 .1 .1 .0) (k .kept .1 .1 .1 .1 .1 .0) (k .kept .1 .1 .0) (k .kept .1 .1 .1 .1 .1 .1 .0)
     )
@@ -45,8 +45,8 @@ run-spec =
     (λ c. sym (c .before .before .before .before .before .before .before .loop .inv .words-size))
     (λ c. sym (c .before .before .before .before .before .before .before .before .loop .inv .buffer-size))
     (λ c. sym (c .before .before .before .before .before .before .before .before .before .loop .inv .out-size))
-    turn-requires
+    take-in-requires
     (λ c κs. c .before .before .before .before .before .before .before .before .before .before .before .before .before .before .loop-test .taken)
-    (λ c. rw (c .turns-left .ensures) (fewer-turns (c .before .before .before .before .before .before .before .before .before .before .before .before .before .before .before .before .loop .turns) (c .before .before .before .before .before .before .before .before .before .before .before .before .before .read .result) (c .before .before .before .before .before .before .turn .result .written) (c .before .before .before .before .before .before .before .before .before .before .before .before .before .before .before .loop-test .taken)))
+    (λ c. rw (c .turns-left .ensures) (fewer-turns (c .before .before .before .before .before .before .before .before .before .before .before .before .before .before .before .before .loop .turns) (c .before .before .before .before .before .before .before .before .before .before .before .before .before .read .result) (c .before .before .before .before .before .before .take-in .result .written) (c .before .before .before .before .before .before .before .before .before .before .before .before .before .before .before .loop-test .taken)))
     loop-again
     (λ c. tt))

@@ -2,8 +2,8 @@
 use mathlib.Core.Path.{sym}
 use native.Mathlib.Omega.{arith}
 use lib.Seq.{length-take-le}
-use Rattle.lines.proofs.serve.turn.Statement.{statement}
-use Rattle.lines.proofs.serve.turn.Tie as tie
+use Rattle.lines.proofs.serve.take_in.Statement.{statement}
+use Rattle.lines.proofs.serve.take_in.Tie as tie
 
 speak-requires : tie.Need-speak-requires
 speak-requires c κs =
@@ -11,8 +11,8 @@ speak-requires c κs =
     let p = c .before .before .before .before .before .before .before .put-piece in
     (pre .0, (pre .1 .0, rw (length-take-le (p .result) (p .last .1 .1 .0) (p .ensures .0)) (omega (arith, p .ensures .0, p .kept .1 .1 .0, pre .1 .1 .1))))
 
-pub turn-spec : {M : Type 1} → statement M
-turn-spec =
+pub take-in-spec : {M : Type 1} → statement M
+take-in-spec =
     tie.close
     (tie.spec
     (λ c κs. c .before .before .before .before .before .before .pre .1 .1 .0)
