@@ -14,7 +14,7 @@ use Rattle.lines.specs.declared.session.Session.{Session as Kept}
 use Rattle.lines.specs.declared.session.Went.{Went}
 use Rattle.lines.specs.declared.serve.Spoke.{Spoke}
 use Rattle.lines.specs.Render.{Put}
-use Rattle.lines.specs.Output.{Session, opened, taken, told, toldAtEnd, ended, unended, stateAfter, writtenFor}
+use Rattle.lines.specs.Output.{State, Session, opened, taken, told, toldAtEnd, ended, unended, stateAfter, writtenFor}
 use Rattle.lines.specs.Answering.{sessionOf, Fed, Moves}
 use Rattle.lines.specs.Serving.{Sizes, Keeps, Reached, Tells, pieceOf, turnsLeft, Takes}
 use Rattle.lines.proofs.Pieces.{taken-append, told-by-end}
@@ -34,10 +34,26 @@ told-at-end {s} {k} input keeps = by-cases (s .line) refl (k .held) (keeps .held
     by-cases (b ∷ line) e zero h = absurd (omega (arith, rw e at h))
     by-cases (b ∷ line) e (suc held) h = told-by-end s b line e
 
--- the start is document 01's
-pub started : Reached (record { header = fresh 0; lines = 0; held = 0 }) (replicate 12288 0) (replicate 4096 0) (replicate 65 0)
+-- the start is document 01's, and the empty input leads to it
+pub started :
+    {h : Header} → h ≡ fresh 0 → Keeps opened (record { header = h; lines = 0; held = 0 }) (replicate 12288 0) (replicate 4096 0) (replicate 65 0)
+started e = record { state = rw e; held = held-none (replicate 65 0) }
+
+pub start-sizes : Sizes (replicate 4096 0) (replicate 65 0) (replicate 131072 0)
+start-sizes =
+    let words = length-replicate {A = ℕ} 4096 0 in
+    let out = length-replicate {A = ℕ} 131072 0 in
+    record { holds = length-replicate {A = ℕ} 65 0; room = omega (arith, words, out) }
+
+pub no-lines : {k : Kept} {table words buffer : List ℕ} → Keeps opened k table words buffer → k .lines ≡ 0
+no-lines keeps = ap lines (keeps .state)
+  where
+    lines : State → ℕ
+    lines s = s .lines
+
+pub reached-start : {k : Kept} {table words buffer : List ℕ} → Keeps opened k table words buffer → Reached k table words buffer
 unfolding taken stateAfter ended unended
-started = record { input = []; keeps = record { state = refl; held = held-none (replicate 65 0) } }
+reached-start keeps = record { input = []; keeps = keeps }
 
 module _ {k : Kept} {table words buffer : List ℕ} (r : Reached k table words buffer) where
   pub few-held : k .held ≤ 65
@@ -177,51 +193,35 @@ module _ (turns : ℕ) where
   fewer-turns (suc count) true h = omega arith
   fewer-turns (suc count) false h = h
 
--- the arrays have their sizes, some input led here, and so many turns may still read
-pub record Reading (table words buffer input out : List ℕ) (turns : ℕ) (k : Kept) : Type 0 where
-  pub table-size : length table ≡ 12288
-  pub words-size : length words ≡ 4096
-  pub buffer-size : length buffer ≡ 65
-  pub input-size : length input ≡ 65536
-  pub out-size : length out ≡ 131072
+-- the slices have their sizes, some input led here, and so many turns may still read
+pub record Serving (table₀ words₀ buffer₀ input₀ out₀ table words buffer input out : List ℕ) (turns : ℕ) (k : Kept) : Type 0 where
+  pub lent : Lent table₀ words₀ buffer₀ out₀ table words buffer out
+  pub input-size : length input ≡ length input₀
+  pub some : 0 < length input
+  pub most : length input ≤ 65536
   pub reached : Reached k table words buffer
   pub lines : k .lines + 65536 * turns ≤ 2 ^ 63
 
-pub begun :
-    {h : Header} {input : List ℕ} → length input ≡ 65536 → h ≡ fresh 0
-    → Reading (replicate 12288 0) (replicate 4096 0) (replicate 65 0) input (replicate 131072 0) 140737488355328
-    (record { header = h; lines = 0; held = 0 })
-begun size e =
-    record {
-      table-size = length-replicate {A = ℕ} 12288 0;
-      words-size = length-replicate {A = ℕ} 4096 0;
-      buffer-size = length-replicate {A = ℕ} 65 0;
-      input-size = size;
-      out-size = length-replicate {A = ℕ} 131072 0;
-      reached = rw e started;
-      lines = omega arith;
-    }
-
 -- one turn more
-module _ {table words buffer input out : List ℕ} {turns : ℕ} {k : Kept} (r : Reading table words buffer input out turns k) where
+module _ {table₀ words₀ buffer₀ input₀ out₀ table words buffer input out : List ℕ} {turns : ℕ} {k : Kept}
+    (s : Serving table₀ words₀ buffer₀ input₀ out₀ table words buffer input out turns k) where
   pub enough : Sizes words buffer out
-  enough = record { holds = r .buffer-size; room = omega arith }
+  enough = record { holds = s .lent .holds; room = s .lent .room }
 
-  module _ (next : List ℕ) (same : length next ≡ length input) where
-    pub may-read : 0 < turns → (0 < length next) × (k .lines + length next < 2 ^ 64)
-    may-read more = (omega arith, omega arith)
+  module _ (next : List ℕ) (same : length next ≡ length input) (more : 0 < turns) where
+    pub may-read : (0 < length next) × (k .lines + length next < 2 ^ 64)
+    may-read = (omega arith, omega arith)
 
-    pub read-on :
+    pub served-on :
         (count : ℕ) {after : Spoke} {rows list hold block left : List ℕ} → Takes (pieceOf count (k .held) next) k table words buffer after rows list hold
-        → 0 < turns → length rows ≡ length table → length list ≡ length words → length hold ≡ length buffer → length block ≡ length next
-        → length left ≡ length out → Reading rows list hold block left (turnsLeft turns count (after .written)) (after .session)
-    read-on count {after} t more rows list hold block left =
+        → length rows ≡ length table → length list ≡ length words → length hold ≡ length buffer → length block ≡ length next → length left ≡ length out
+        → Serving table₀ words₀ buffer₀ input₀ out₀ rows list hold block left (turnsLeft turns count (after .written)) (after .session)
+    served-on count {after} t rows list hold block left =
         record {
-          table-size = omega arith;
-          words-size = omega arith;
-          buffer-size = omega arith;
+          lent = lent-on (s .lent) rows list hold left;
           input-size = omega arith;
-          out-size = omega arith;
-          reached = led-on (r .reached) (take (t .bytes) (pieceOf count (k .held) next)) (t .keeps);
+          some = omega arith;
+          most = omega arith;
+          reached = led-on (s .reached) (take (t .bytes) (pieceOf count (k .held) next)) (t .keeps);
           lines = omega (arith, t .lines, piece-within next count (k .held) (omega arith), fewer-turns turns count (after .written) more);
         }

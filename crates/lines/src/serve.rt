@@ -11,7 +11,8 @@ use pretree::Header;
 ghost use mathlib.Core.Path.{_≡_};
 ghost use Prim.Native.Nat.{_+_, _*_, _<_, _≤_, _^_};
 ghost use lib.ListN.{length, take};
-ghost use Rattle.lines.specs.Serving.{Sizes, Reached, Tells, pieceOf, turnsLeft, Takes};
+ghost use Rattle.lines.specs.Output.{opened};
+ghost use Rattle.lines.specs.Serving.{Sizes, Keeps, Reached, Tells, pieceOf, turnsLeft, Takes};
 
 // The session after a piece, and whether all that was told of the piece was written.
 pub struct Spoke {
@@ -20,34 +21,49 @@ pub struct Spoke {
 }
 
 // "Table of 4,096 rows, all zeros, and a `list` buffer of 4,096 words. Header at the start: W 0, count 0."
-// A proved loop has to end, and nothing says that the input does. So the loop counts its turns down, from a number that no run uses up:
-// at 65,536 bytes a turn it would have read 2^63 bytes.
 pub fn run() {
     let mut table = [0u32; 12288];
     let mut words = [0u32; 4096];
     let mut buffer = [0u8; 65];
     let mut input = io::large_buffer();
     let mut out = [0u8; 131072];
+    let session = Session {
+        header: Header::fresh(0),
+        lines: 0,
+        held: 0,
+    };
+    serve(
+        session,
+        &mut input,
+        &mut table,
+        &mut words,
+        &mut buffer,
+        &mut out,
+    );
+}
+
+// A proved loop has to end, and nothing says that the input does. So the loop counts its turns down, from a number that no run uses up:
+// at 65,536 bytes a turn it would have read 2^63 bytes.
+fn serve(
+    session: Session,
+    input: &mut [u8],
+    table: &mut [u32],
+    words: &mut [u32],
+    buffer: &mut [u8],
+    out: &mut [u8],
+)
+    requires { ⌜ Keeps opened session (now table) (now words) (now buffer) ⌝ }
+    requires { ⌜ Sizes (now words) (now buffer) (now out) ⌝ }
+    requires { ⌜ (0 < length (now input)) × (length (now input) ≤ 65536) ⌝ }
+{
     let mut turns: u64 = 140737488355328;
     let mut spoke = Spoke {
-        session: Session {
-            header: Header::fresh(0),
-            lines: 0,
-            held: 0,
-        },
+        session,
         written: true,
     };
     while 0 < turns {
-        let count = read(&mut input);
-        spoke = take_in(
-            spoke.session,
-            count,
-            &mut input,
-            &mut table,
-            &mut words,
-            &mut buffer,
-            &mut out,
-        );
+        let count = read(input);
+        spoke = take_in(spoke.session, count, input, table, words, buffer, out);
         turns = turns_left(turns, count, spoke.written);
     }
 }
