@@ -1,15 +1,14 @@
 -- A line is read exactly when it spells a call, and is answered 9 exactly when it is not read.
-use Prim.Native.Nat.{ℕ, suc, _≤_, _<_}
-use Prim.Native.String.{String}
+use Prim.Native.Nat.{ℕ, _≤_}
 use mathlib.Core.Path.{_≡_, refl, sym, ap, _∙_}
 use mathlib.Core.Bool.{Bool, true, false, not, _&&_, false≢true}
-use mathlib.Core.List.{List, [], _∷_, _++_, append-nil, List·Memᴰ, List·Memᴰ·head, List·Memᴰ·tail}
+use mathlib.Core.List.{List, [], _∷_, _++_, append-nil, List·Memᴰ·head, List·Memᴰ·tail}
 use mathlib.Core.Logic.{_↔_, ⊎-elim}
 use native.Mathlib.Omega.{arith}
 use borrow.Author.Tests.{eq-eqb, eqb-true, le-ltb, ltb-true, ltb-false, leb-true}
 use lib.Dec.{T, ltb, leb, eqb}
 use lib.ListN.{length}
-use Rattle.ordered.specs.Such.{if_then_else_, Perhaps, no-such, such, first-of}
+use Rattle.ordered.specs.Such.{if_then_else_, Perhaps, no-such, such}
 use Rattle.ordered.specs.Said.{_∈_}
 use Rattle.pretree.specs.declared.Answer.{Answer}
 use Rattle.pretree.specs.declared.Answer.the-variants.{Done, Word, Distance, WrongWidth, WrongHeader, WordTooWide, Damage, Full, ShortBuffer, AlreadyThere, NoSuchWord}
@@ -21,7 +20,7 @@ use Rattle.lines.specs.declared.Line.the-variants.{Read, Unread}
 use Rattle.lines.specs.Text.{bytes}
 use Rattle.lines.specs.Line.{areDigits, spelt, leadsWithZero, isNumber, number, afterWord, Form, with-number, alone, operations}
 use Rattle.lines.specs.Line.{called, with-rest, if-nothing, readAs, firstRead, lineOf, parse}
-use Rattle.lines.specs.Output.{State, Step, answer}
+use Rattle.lines.specs.Output.{State, answer}
 use Rattle.lines.specs.NotRead.{SpellsNumber, Spells, numbered, bare, Refused, AnswersNine}
 use Rattle.lines.proofs.Tests.{either, both}
 use Rattle.lines.proofs.Numbers.{is-number}

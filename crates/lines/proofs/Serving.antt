@@ -1,6 +1,6 @@
 -- What the loops over standard input keep: from the start on, the memory keeps the session to which the input taken in so far leads.
-use Prim.Native.Nat.{ℕ, zero, suc, _+_, _*_, _-_, _^_, _≤_, _<_, min}
-use mathlib.Core.Path.{_≡_, refl, sym, ap, _∙_}
+use Prim.Native.Nat.{ℕ, zero, suc, _+_, _*_, _-_, _^_, _≤_, _<_}
+use mathlib.Core.Path.{_≡_, refl, ap}
 use mathlib.Core.Bool.{Bool, true, false}
 use mathlib.Core.List.{List, [], _∷_, _++_}
 use mathlib.Core.Logic.{_⊎_, inl, inr}
@@ -14,7 +14,7 @@ use Rattle.lines.specs.declared.session.Session.{Session as Kept}
 use Rattle.lines.specs.declared.session.Went.{Went}
 use Rattle.lines.specs.declared.serve.Spoke.{Spoke}
 use Rattle.lines.specs.Render.{Put}
-use Rattle.lines.specs.Output.{State, Session, opened, taken, told, toldAtEnd, ended, unended, stateAfter, writtenFor}
+use Rattle.lines.specs.Output.{State, Session, opened, taken, told, toldAtEnd, ended, unended, stateAfter}
 use Rattle.lines.specs.Answering.{sessionOf, Fed, Moves}
 use Rattle.lines.specs.Serving.{Sizes, Keeps, Reached, Tells, pieceOf, turnsLeft, Takes}
 use Rattle.lines.proofs.Pieces.{taken-append, told-by-end}
