@@ -14,4 +14,5 @@ pub mod Running
 pub mod Feeding
 pub mod Stepping
 pub mod Serving
+pub mod NotRead
 pub mod Examples

@@ -79,7 +79,7 @@ pub any-pieces : (pieces : List (List ℕ)) → inPieces opened pieces ≡ outpu
 unfolding output linesOf told taken toldAtEnd
 any-pieces pieces = rw (pieces-as-one opened pieces, written-append)
 
--- a byte 10 behind bytes that are left tells what is told of them at the end of input, which is how `next_piece` ends their line
+-- a byte 10 behind bytes that are left tells what is told of them at the end of input, which is how `put_piece` ends their line
 pub told-by-end : (s : Session) (b : ℕ) (line : List ℕ) → s .line ≡ b ∷ line → told s (10 ∷ []) ≡ toldAtEnd s
 unfolding told toldAtEnd ended
 told-by-end s b line h = rw h

@@ -27,7 +27,7 @@ use Rattle.lines.specs.Answering.{Runs, heardOf, stateOf, Hears, Answers
 use Rattle.lines.proofs.Tests.{either}
 use Rattle.lines.proofs.Puts.{put-then}
 
--- "6: `list` buffer shorter than count"
+-- Answer 6 is given for a "`list` buffer shorter than count", so with answer 0 the listed words are in the buffer.
 list-within : (h : Header) (t b : List ℕ) → listedIn (listReply h t b) ≤ length b
 unfolding listReply numberOf
 list-within h t b =

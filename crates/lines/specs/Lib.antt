@@ -4,6 +4,7 @@ pub mod Line
 pub mod Head
 pub mod Render
 pub mod Output
+pub mod NotRead
 pub mod Gather
 pub mod Answering
 pub mod Serving

@@ -44,7 +44,7 @@ keyField (Of k) = field k
 abbrev pub saidOf : Reply → Said
 saidOf r = record { answer = numberOf (r .answer); key = asNumber (keyOf (r .answer)); rows = r .rows; moved = r .moved }
 
--- "9: program only: line not read"
+-- answer 9: "program only: line not read"
 abbrev pub notRead : Said
 notRead = record { answer = 9; key = Nothing; rows = 0; moved = 0 }
 

@@ -58,19 +58,19 @@ fn by_head(head: u32, rest: &[u8]) -> Line
     ensures { λ r. ⌜ r ≡ byHead head (now (rest .entry)) ⌝ }
 {
     match head {
-        // "new\t", "add\t", "del\t", "has\t", "gap\t"
+        // `new`, `add`, `del`, `has` and `gap`, each with its tab
         0x6e657709 => numbered(Word::New, rest),
         0x61646409 => numbered(Word::Add, rest),
         0x64656c09 => numbered(Word::Del, rest),
         0x68617309 => numbered(Word::Has, rest),
         0x67617009 => numbered(Word::Gap, rest),
-        // "next", "prev"
+        // `next` and `prev`, whose tab is in the rest
         0x6e657874 => numbered_after(b'\t', Word::Next, rest),
         0x70726576 => numbered_after(b'\t', Word::Prev, rest),
-        // "last", "list"
+        // `last` and `list`
         0x6c617374 => alone(Call::Last, rest),
         0x6c697374 => alone(Call::List, rest),
-        // "firs", "audi"
+        // `first` and `audit`, whose last byte is in the rest
         0x66697273 => alone_after(b't', Call::First, rest),
         0x61756469 => alone_after(b't', Call::Audit, rest),
         _ => Line::Unread,

@@ -21,7 +21,7 @@ pub(crate) fn said(reply: Reply) -> Said
     }
 }
 
-// "9: program only: line not read", a refusal: "counts 0".
+// Answer 9, "program only: line not read", is a refusal: "counts 0".
 pub(crate) fn not_read() -> Said
     ensures { λ r. ⌜ r ≡ notRead ⌝ }
 {

@@ -1,19 +1,21 @@
--- The loop's invariant: the slices have their sizes, and no more lines were answered than bytes were read.
+-- The loop's invariant: the slices have their sizes, and the piece was taken in up to the place reached.
 use Prim.Native.Nat.{_-_}
 use mathlib.Core.Path.{refl, sym, _∙_}
+use mathlib.Core.Bool.{false≢true}
 use native.Mathlib.Omega.{arith}
 use lib.ListN.{length}
 use lib.Seq.{length-take-le}
-use Rattle.lines.proofs.Serving.{Lent, Speaking, lent-on, spoke-on, served}
+use Rattle.lines.proofs.Serving.{Lent, Speaking, lent-on, spoke-none, spoke-on, took, tells, few-held, reached-here}
 use Rattle.lines.proofs.serve.speak.Statement.{statement}
 use Rattle.lines.proofs.serve.speak.Tie as tie
 
 abbrev Inv-loop : tie.InvT-loop
-Inv-loop turns piece table₀ words₀ buffer₀ out₀ went₀ table words buffer out went =
-    Lent table₀ words₀ buffer₀ out₀ table words buffer out × Speaking piece (went₀ .session) (went .session) (went .from)
+Inv-loop piece table₀ words₀ buffer₀ out₀ went₀ table words buffer out went =
+    Lent table₀ words₀ buffer₀ out₀ table words buffer out
+    × Speaking piece (went₀ .session) table₀ words₀ buffer₀ (went .session) (went .from) table words buffer
 
 abbrev μ-loop : tie.MeasureT-loop
-μ-loop turns piece table₀ words₀ buffer₀ out₀ went₀ table words buffer out went = length piece - went .from
+μ-loop piece table₀ words₀ buffer₀ out₀ went₀ table words buffer out went = length piece - went .from
 
 loop-holds : tie.Need-loop-holds Inv-loop μ-loop
 loop-holds c =
@@ -26,34 +28,43 @@ loop-holds c =
         holds = pre .0 .holds;
         room = pre .0 .room;
       },
-      record { within = omega arith; held = pre .1 .0; lines = omega arith; few = pre .1 .1 },
+      spoke-none (pre .1 .0) (pre .1 .1),
     )
 
 feed-requires : tie.Need-feed-requires Inv-loop μ-loop
 feed-requires c κs =
     let i = c .before .before .before .before .before .before .loop .inv in
-    (omega (arith, i .1), (i .0 .room, ((i .0 .holds, i .1 .held), c .before .before .before .before .if1 .taken)))
+    (omega (arith, i .1 .lines, i .1 .few), (i .0 .room, ((i .0 .holds, few-held (reached-here (i .1))), c .before .before .before .before .if1 .taken)))
 
-slice-aggregate-write-all : tie.Need-slice-aggregate-write-all Inv-loop μ-loop
-slice-aggregate-write-all c =
+slice-aggregate-write : tie.Need-slice-aggregate-write Inv-loop μ-loop
+slice-aggregate-write c =
     let f = c .before .before .before .before .before .before .before .before .before .feed in
     sym (length-take-le (f .result .next) (f .last .1 .1 .1 .1 .1 .1 .0) (f .ensures .1 .fits))
 
+write-requires : tie.Need-write-requires Inv-loop μ-loop
+write-requires c κs =
+    let f = c .before .before .before .before .before .before .before .before .before .feed in
+    let i = c .before .before .before .before .before .before .before .before .before .before .before .before .before .before .before .before .loop .inv in
+    tells (i .1) (f .ensures .0) (f .ensures .1) (f .kept .1 .1 .1 .1 .1 .1 .0)
+
 returns : tie.Need-returns Inv-loop μ-loop
 returns c =
+    let f = c .before .before .before .before .before .before .before .before .before .before .before .before .feed in
     let s = c .spoke-of .ensures in
-    (served (spoke-on (c .before .before .before .before .before .before .before .before .before .before .before .before .before .before .before .before .before .before .before .loop .inv .1) (c .before .before .before .before .before .before .before .before .before .before .before .before .feed .ensures .1)) (s .0), omega (arith, s .1))
+    took (spoke-on (c .before .before .before .before .before .before .before .before .before .before .before .before .before .before .before .before .before .before .before .loop .inv .1) (f .ensures .0) (f .ensures .1)) (s .0) (λ e. absurd (false≢true (sym (s .1) ∙ e)))
 
 loop-again : tie.Need-loop-again Inv-loop μ-loop
 loop-again c =
     let f = c .before .before .before .before .before .before .before .before .before .before .before .feed in
-    let i = c .before .before .before .before .before .before .before .before .before .before .before .before .before .before .before .before .before .before .loop .inv in
-    (lent-on (i .0) (f .kept .1 .1 .1 .0) (f .kept .1 .1 .1 .1 .0) (f .kept .1 .1 .1 .1 .1 .0) (f .kept .1 .1 .1 .1 .1 .1 .0), spoke-on (i .1) (f .ensures .1))
+    let i = c .before .before .before .before .before .before .before .before .before .before .before .before .before .before .before .before .before .before .loop .inv in (
+      lent-on (i .0) (f .kept .1 .1 .1 .0) (f .kept .1 .1 .1 .1 .0) (f .kept .1 .1 .1 .1 .1 .0) (f .kept .1 .1 .1 .1 .1 .1 .0),
+      spoke-on (i .1) (f .ensures .0) (f .ensures .1),
+    )
 
 returns-2 : tie.Need-returns-2 Inv-loop μ-loop
 returns-2 c =
-    let s = c .spoke-of2 .ensures in
-    (served (c .before .before .before .loop .inv .1) (s .0), omega (arith, s .1))
+    let i = c .before .before .before .loop .inv .1 in
+    took i (c .spoke-of2 .ensures .0) (λ e. omega (arith, i .within, c .before .if1 .left))
 
 pub speak-spec : {M : Type 1} → statement M
 speak-spec =
@@ -64,8 +75,8 @@ speak-spec =
     loop-holds
     feed-requires
     (λ c. c .before .before .before .before .before .before .before .before .feed .ensures .1 .fits)
-    slice-aggregate-write-all
-    (λ c κs. tt)
+    slice-aggregate-write
+    write-requires
     (λ c κs. tt)
     (λ c. c .before .before .before .before .before .before .before .before .before .before .before .before .feed .kept .1 .1 .1 .0 ∙ c .before .before .before .before .before .before .before .before .before .before .before .before .before .before .before .before .before .before .before .loop .inv .0 .table-size)
     (λ c. c .before .before .before .before .before .before .before .before .before .before .before .before .feed .kept .1 .1 .1 .1 .0 ∙ c .before .before .before .before .before .before .before .before .before .before .before .before .before .before .before .before .before .before .before .loop .inv .0 .words-size)

@@ -1,0 +1,55 @@
+-- Answer 9. Document 01: "One of `new`, `add`, `del`, `has`, `next`, `prev`, `gap`, then one tab and a number; or `first`, `last`, `list`,
+-- `audit` with nothing after. [..] Anything else, a line above 64 bytes (its byte 10 not counted) or an empty line included, is answer 9."
+-- Line.antt reads a line; here is what it is to spell a call, and the claim that a line is read exactly when it spells one.
+use Prim.Native.Nat.{ℕ, suc, _≤_}
+use Prim.Native.String.{String}
+use mathlib.Core.Path.{_≡_}
+use mathlib.Core.Bool.{true, false}
+use mathlib.Core.List.{List, [], _++_}
+use mathlib.Core.Logic.{_↔_}
+use lib.ListN.{length}
+use Rattle.ordered.specs.Said.{_∈_}
+use Rattle.pretree.specs.declared.Call.{Call}
+use Rattle.lines.specs.declared.Line.the-variants.{Read, Unread}
+use Rattle.lines.specs.declared.Number.the-variants.{Nothing}
+use Rattle.lines.specs.Text.{bytes}
+use Rattle.lines.specs.Line.{areDigits, leadsWithZero, spelt, with-number, alone, operations, parse}
+use Rattle.lines.specs.Output.{State, Step, answer}
+
+-- "A number is 1 to 10 digits, no leading zero but for 0 itself, at most 4,294,967,295."
+pub record SpellsNumber (n : ℕ) (ds : List ℕ) : Type 0 where
+  pub some : 1 ≤ length ds
+  pub few : length ds ≤ 10
+  pub digits : areDigits ds ≡ true
+  pub plain : leadsWithZero ds ≡ false
+  pub value : spelt 0 ds ≡ n
+  pub most : n ≤ 4294967295
+
+-- a line of at most 64 bytes that is one of the forms
+pub data Spells (call : Call) (line : List ℕ) : Type 0 where
+  -- "then one tab and a number"
+  numbered :
+      {word : String} {of : ℕ → Call} {n : ℕ} {ds : List ℕ} → with-number word of ∈ operations → line ≡ bytes word ++ bytes "\t" ++ ds → SpellsNumber n ds
+      → call ≡ of n → length line ≤ 64 → Spells call line
+  -- "with nothing after"
+  bare : {word : String} {of : Call} → alone word of ∈ operations → line ≡ bytes word → call ≡ of → length line ≤ 64 → Spells call line
+
+-- "1 to 6 and 9 are refusals: counts 0, header, table and buffer untouched." The line is counted.
+pub record Refused (s : State) (a : Step) : Type 0 where
+  pub key : a .said .key ≡ Nothing
+  pub rows : a .said .rows ≡ 0
+  pub moved : a .said .moved ≡ 0
+  pub listed : a .listed ≡ []
+  pub header : a .state .header ≡ s .header
+  pub table : a .state .table ≡ s .table
+  pub buffer : a .state .buffer ≡ s .buffer
+  pub lines : a .state .lines ≡ suc (s .lines)
+
+-- in every state, for every line
+pub record AnswersNine (s : State) (line : List ℕ) : Type 0 where
+  -- a line is read as the call that it spells, and "Anything else [..] is answer 9."
+  pub read : (call : Call) → (parse line ≡ Read call) ↔ Spells call line
+  pub unread : (parse line ≡ Unread) ↔ ((call : Call) → Spells call line → ⊥)
+  -- 9 is the answer exactly where a line is not read
+  pub nine : (answer s (parse line) .said .answer ≡ 9) ↔ (parse line ≡ Unread)
+  pub refused : parse line ≡ Unread → Refused s (answer s (parse line))
