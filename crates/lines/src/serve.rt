@@ -5,6 +5,7 @@
 use crate::session::Session;
 use crate::session::Went;
 use crate::session::feed;
+use libc::STDERR_FILENO;
 use libc::STDIN_FILENO;
 use libc::STDOUT_FILENO;
 use pretree::Header;
@@ -13,6 +14,9 @@ ghost use Prim.Native.Nat.{_+_, _*_, _<_, _≤_, _^_};
 ghost use lib.ListN.{length, take};
 ghost use Rattle.lines.specs.Output.{opened};
 ghost use Rattle.lines.specs.Serving.{Sizes, Keeps, Reached, Tells, pieceOf, turnsLeft, Takes};
+
+// Where `./run` waits for the word that all was written.
+const OUTCOME_FILENO: i32 = 3;
 
 // The session after a piece, and whether all that was told of the piece was written.
 pub struct Spoke {
@@ -65,6 +69,17 @@ fn serve(
         let count = read(input);
         spoke = take_in(spoke.session, count, input, table, words, buffer, out);
         turns = turns_left(turns, count, spoke.written);
+    }
+    finish(spoke.written);
+}
+
+// A program has no exit status. So it writes `ok` to descriptor 3 once all that was told is written, and `./run` ends with 0 only then. A write
+// that failed is told on standard error.
+fn finish(written: bool) {
+    if written {
+        io::write_all(OUTCOME_FILENO, b"ok\n");
+    } else {
+        io::write_all(STDERR_FILENO, b"a write failed: replies are missing\n");
     }
 }
 
