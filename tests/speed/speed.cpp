@@ -16,7 +16,6 @@
 #include <cstdio>
 #include <cstdlib>
 #include <cstring>
-#include <memory>
 #include <random>
 #include <set>
 #include <string>
@@ -114,8 +113,7 @@ static Answer nearer(bool some_below, uint32_t below, bool some_above, uint32_t 
 }
 
 // std::set and absl::btree_set
-template <class Set, const char *&Name> struct Ordered {
-    static constexpr const char *const &name = Name;
+template <class Set> struct Ordered {
     static constexpr bool is_table = false;
     Set set;
 
@@ -149,7 +147,15 @@ template <class Set, const char *&Name> struct Ordered {
     size_t list(Words &to) { return std::copy(set.begin(), set.end(), to.begin()) - to.begin(); }
 };
 
-static const char *std_name = "std::set", *absl_name = "absl::btree_set";
+struct StdSet : Ordered<std::set<uint32_t>> {
+    static constexpr const char *name = "std::set";
+};
+
+#ifdef HAVE_ABSL
+struct BtreeSet : Ordered<absl::btree_set<uint32_t>> {
+    static constexpr const char *name = "absl::btree_set";
+};
+#endif
 
 #ifdef HAVE_JUDY
 struct Judy {
@@ -268,9 +274,9 @@ struct Sorted {
     size_t list(Words &to) { return std::copy(set.begin(), set.end(), to.begin()) - to.begin(); }
 };
 
-using Sets = std::tuple<Table<Proved>, Table<Plain>, Ordered<std::set<uint32_t>, std_name>
+using Sets = std::tuple<Table<Proved>, Table<Plain>, StdSet
 #ifdef HAVE_ABSL
-    , Ordered<absl::btree_set<uint32_t>, absl_name>
+    , BtreeSet
 #endif
 #ifdef HAVE_JUDY
     , Judy
@@ -542,7 +548,8 @@ static size_t compared(uint32_t width, size_t capacity, size_t calls, uint32_t s
         using Call = decltype(call);
         Answer expected = Call::of(proved, k);
         each(sets, [&](auto &set) {
-            if (!(static_cast<void *>(&set) == static_cast<void *>(&proved)) && !(Call::of(set, k) == expected))
+            bool is_proved = static_cast<void *>(&set) == static_cast<void *>(&proved);
+            if (!is_proved && !(Call::of(set, k) == expected))
                 differ(said(Call::name, k, width, set.name));
         });
         if (memcmp(&proved.reply, &plain.reply, sizeof(Reply)) != 0)
