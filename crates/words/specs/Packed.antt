@@ -13,7 +13,7 @@ headerOf width count = record { width = width; count = count }
 abbrev pub sixOf : Reply → ℕ → ℕ → List ℕ
 sixOf r number key = number ∷ key ∷ r .rows ∷ r .moved ∷ r .header .width ∷ r .header .count ∷ []
 
--- "Key: [..] else none". None is 0 here: each call that answers 0 either always has a key or never.
+-- "the word for [..]; the distance for `gap`; else none". None is 0 here: by its call one knows whether an answer 0 has a key.
 abbrev pub orZero : Perhaps ℕ → ℕ
 orZero no-such = 0
 orZero (such k) = k

@@ -101,7 +101,13 @@ pub extern "C" fn words_audit(width: u32, count: u32, table: &[u32], reply: &mut
 }
 
 #[no_mangle]
-pub extern "C" fn words_add(width: u32, count: u32, table: &mut [u32], word: u32, reply: &mut [u32; 6])
+pub extern "C" fn words_add(
+    width: u32,
+    count: u32,
+    table: &mut [u32],
+    word: u32,
+    reply: &mut [u32; 6],
+)
     ensures reply { λ _. ⌜ now (reply .exit) ≡ packed (addOutcome (headerOf width count) (now (table .entry)) word .reply) ⌝ }
     ensures table { λ _. ⌜ now (table .exit) ≡ addOutcome (headerOf width count) (now (table .entry)) word .table ⌝ }
 {
@@ -110,7 +116,13 @@ pub extern "C" fn words_add(width: u32, count: u32, table: &mut [u32], word: u32
 }
 
 #[no_mangle]
-pub extern "C" fn words_del(width: u32, count: u32, table: &mut [u32], word: u32, reply: &mut [u32; 6])
+pub extern "C" fn words_del(
+    width: u32,
+    count: u32,
+    table: &mut [u32],
+    word: u32,
+    reply: &mut [u32; 6],
+)
     ensures reply { λ _. ⌜ now (reply .exit) ≡ packed (delOutcome (headerOf width count) (now (table .entry)) word .reply) ⌝ }
     ensures table { λ _. ⌜ now (table .exit) ≡ delOutcome (headerOf width count) (now (table .entry)) word .table ⌝ }
 {
@@ -119,7 +131,13 @@ pub extern "C" fn words_del(width: u32, count: u32, table: &mut [u32], word: u32
 }
 
 #[no_mangle]
-pub extern "C" fn words_new(width: u32, count: u32, table: &mut [u32], bits: u32, reply: &mut [u32; 6])
+pub extern "C" fn words_new(
+    width: u32,
+    count: u32,
+    table: &mut [u32],
+    bits: u32,
+    reply: &mut [u32; 6],
+)
     ensures reply { λ _. ⌜ now (reply .exit) ≡ packed (newReply (headerOf width count) bits) ⌝ }
     ensures table { λ _. ⌜ now (table .exit) ≡ newTable (now (table .entry)) bits ⌝ }
 {
@@ -128,7 +146,13 @@ pub extern "C" fn words_new(width: u32, count: u32, table: &mut [u32], bits: u32
 }
 
 #[no_mangle]
-pub extern "C" fn words_list(width: u32, count: u32, table: &[u32], buffer: &mut [u32], reply: &mut [u32; 6])
+pub extern "C" fn words_list(
+    width: u32,
+    count: u32,
+    table: &[u32],
+    buffer: &mut [u32],
+    reply: &mut [u32; 6],
+)
     ensures reply { λ _. ⌜ now (reply .exit) ≡ packed (listReply (headerOf width count) (now (table .entry)) (now (buffer .entry))) ⌝ }
     ensures buffer { λ _. ⌜ now (buffer .exit) ≡ listBuffer (headerOf width count) (now (table .entry)) (now (buffer .entry)) ⌝ }
 {
