@@ -1,0 +1,193 @@
+// The line language of document 01 over std::set, to compare with the line program.
+//
+//     lines plain     reads by std::getline and writes to std::cout
+//     lines tuned     reads pieces of 64 KiB by fread, and writes by std::to_chars into a buffer
+//
+// The replies are those of the line program, but that a std::set reads no rows: both row counts are written as 0, and `audit` answers 0.
+#include <charconv>
+#include <cstdint>
+#include <cstdio>
+#include <cstring>
+#include <iostream>
+#include <set>
+#include <string>
+#include <string_view>
+#include <vector>
+
+static constexpr size_t capacity = 4096;
+
+struct Stream {
+    void room(size_t) {}
+    void put(char c) { std::cout << c; }
+    void put(std::string_view s) { std::cout << s; }
+    void number(uint64_t n) { std::cout << n; }
+};
+
+struct Buffer {
+    char bytes[1 << 17];
+    size_t used = 0;
+
+    ~Buffer() { flush(); }
+    void flush() { fwrite(bytes, 1, used, stdout), used = 0; }
+    void room(size_t n)
+    {
+        if (sizeof bytes - used < n)
+            flush();
+    }
+    void put(char c) { bytes[used++] = c; }
+    void put(std::string_view s) { memcpy(bytes + used, s.data(), s.size()), used += s.size(); }
+    void number(uint64_t n) { used = std::to_chars(bytes + used, bytes + sizeof bytes, n).ptr - bytes; }
+};
+
+template <class Out> struct Session {
+    std::set<uint32_t> set;
+    uint32_t width = 0;
+    uint64_t line = 0;
+    Out out;
+
+    void reply(unsigned answer, bool has_key = false, uint32_t key = 0)
+    {
+        out.room(64);
+        out.number(line);
+        out.put('\t');
+        out.number(answer);
+        out.put('\t');
+        if (has_key)
+            out.number(key);
+        else
+            out.put('-');
+        out.put("\t0\t0\n");
+    }
+
+    // "A number is 1 to 10 digits, no leading zero but for 0 itself, at most 4,294,967,295."
+    static bool read(std::string_view digits, uint32_t &number)
+    {
+        if (digits.empty() || digits.size() > 10 || (digits[0] == '0' && digits.size() > 1) || digits[0] == '-')
+            return false;
+        auto [end, error] = std::from_chars(digits.begin(), digits.end(), number);
+        return error == std::errc{} && end == digits.end();
+    }
+
+    void answer(std::string_view text)
+    {
+        line++;
+        size_t tab = text.find('\t');
+        std::string_view word = text.substr(0, tab);
+        if (text.size() > 64)
+            return reply(9);
+        if (tab == std::string_view::npos)
+            return alone(word);
+        uint32_t k;
+        if (!read(text.substr(tab + 1), k))
+            return reply(9);
+        numbered(word, k);
+    }
+
+    void alone(std::string_view word)
+    {
+        bool first = word == "first", last = word == "last", list = word == "list", audit = word == "audit";
+        if (!first && !last && !list && !audit)
+            return reply(9);
+        if (width == 0)
+            return reply(2);
+        if (audit)
+            return reply(0);
+        if (list) {
+            reply(0);
+            for (uint32_t k : set) {
+                out.room(64);
+                out.put("key\t");
+                out.number(k);
+                out.put('\n');
+            }
+            return;
+        }
+        if (set.empty())
+            return reply(8);
+        reply(0, true, first ? *set.begin() : *set.rbegin());
+    }
+
+    void numbered(std::string_view word, uint32_t k)
+    {
+        if (word == "new") {
+            if (k == 0 || k > 32)
+                return reply(1);
+            set.clear();
+            width = k;
+            return reply(0);
+        }
+        bool has = word == "has", add = word == "add", del = word == "del", next = word == "next", prev = word == "prev", gap = word == "gap";
+        if (!has && !add && !del && !next && !prev && !gap)
+            return reply(9);
+        if (width == 0)
+            return reply(2);
+        if (uint64_t(k) >> width != 0)
+            return reply(3);
+        if (has)
+            return reply(set.count(k) != 0 ? 0 : 8);
+        if (del)
+            return reply(set.erase(k) != 0 ? 0 : 8);
+        if (add) {
+            if (set.size() == capacity)
+                return reply(set.count(k) != 0 ? 7 : 5);
+            return reply(set.insert(k).second ? 0 : 7);
+        }
+        if (next) {
+            auto i = set.upper_bound(k);
+            return i == set.end() ? reply(8) : reply(0, true, *i);
+        }
+        auto i = set.lower_bound(k);
+        bool some_above = i != set.end(), some_below = i != set.begin();
+        if (prev)
+            return some_below ? reply(0, true, *--i) : reply(8);
+        if (!some_above && !some_below)
+            return reply(8);
+        uint32_t distance = some_above ? *i - k : UINT32_MAX;
+        if (some_below && distance != 0) {
+            uint32_t below = k - *--i;
+            if (below < distance)
+                distance = below;
+        }
+        reply(0, true, distance);
+    }
+};
+
+static void plain()
+{
+    std::ios::sync_with_stdio(false);
+    Session<Stream> session;
+    std::string line;
+    while (std::getline(std::cin, line))
+        session.answer(line);
+}
+
+static void tuned()
+{
+    static Session<Buffer> session;
+    std::vector<char> bytes(1 << 16);
+    size_t held = 0;
+    for (size_t got; (got = fread(bytes.data() + held, 1, bytes.size() - held, stdin)) != 0;) {
+        char *at = bytes.data(), *end = at + held + got;
+        while (char *stop = static_cast<char *>(memchr(at, '\n', end - at))) {
+            session.answer({at, size_t(stop - at)});
+            at = stop + 1;
+        }
+        held = end - at;
+        memmove(bytes.data(), at, held);
+        if (held == bytes.size())
+            bytes.resize(2 * held);
+    }
+    if (held != 0)
+        session.answer({bytes.data(), held});
+}
+
+int main(int n, char **arguments)
+{
+    std::string_view mode = n == 2 ? arguments[1] : "";
+    if (mode == "plain")
+        plain();
+    else if (mode == "tuned")
+        tuned();
+    else
+        return fprintf(stderr, "lines: plain or tuned\n"), 2;
+}

@@ -1,0 +1,332 @@
+/* The calls in plain C, with the same replies on a sound table and no checks: a table that is not sound, a word that is too wide or an
+   `add` to a full table does harm. Document 01, "The ways", says what each does. Only `audit` looks for damage: that is its work.
+
+   `bits` is the word with its next deciding bit on top, so a turn is one shift. On a sound table no way needs to know its depth: a row
+   at depth W has the word itself, and no links. */
+#include "calls.h"
+
+#include <string.h>
+
+#define UNUSED(x) (void)(x)
+
+static inline uint32_t aligned(uint32_t word, uint32_t width)
+{
+    return word << (32 - width);
+}
+
+static inline void answer(Reply *reply, uint32_t number, uint32_t key, uint32_t rows, uint32_t width, uint32_t count)
+{
+    *reply = (Reply){number, key, rows, 0, width, count};
+}
+
+READING_WORD(plain_has)
+{
+    UNUSED(length);
+    uint32_t bits = aligned(word, width), rows = 0, found = NO_SUCH_WORD;
+    const uint32_t *row = table;
+    while (count != 0) {
+        rows++;
+        if (row[0] >= word) {
+            if (row[0] == word)
+                found = DONE;
+            break;
+        }
+        uint32_t link = row[1 + (bits >> 31)];
+        if (link == 0)
+            break;
+        bits <<= 1;
+        row = table + 3 * (size_t)link;
+    }
+    answer(reply, found, 0, rows, width, count);
+}
+
+READING_WORD(plain_next)
+{
+    UNUSED(length);
+    uint32_t bits = aligned(word, width), rows = 0, aside = 0;
+    const uint32_t *row = table;
+    while (count != 0) {
+        rows++;
+        if (row[0] > word) {
+            answer(reply, DONE, row[0], rows, width, count);
+            return;
+        }
+        uint32_t side = bits >> 31, link = row[1 + side], skipped = row[2] & (side - 1);
+        if (skipped != 0)
+            aside = skipped; /* the deepest right link on a turn to the left */
+        if (link == 0)
+            break;
+        bits <<= 1;
+        row = table + 3 * (size_t)link;
+    }
+    if (aside == 0)
+        answer(reply, NO_SUCH_WORD, 0, rows, width, count);
+    else
+        answer(reply, DONE, table[3 * (size_t)aside], rows + 1, width, count);
+}
+
+/* The greatest word from a row down, by right link, else left link. */
+static inline uint32_t greatest(const uint32_t *table, uint32_t at, uint32_t *rows)
+{
+    for (;;) {
+        const uint32_t *row = table + 3 * (size_t)at;
+        ++*rows;
+        at = row[2] != 0 ? row[2] : row[1];
+        if (at == 0)
+            return row[0];
+    }
+}
+
+READING_WORD(plain_prev)
+{
+    UNUSED(length);
+    uint32_t bits = aligned(word, width), rows = 0, side = 0;
+    const uint32_t *row = table, *below = NULL;
+    while (count != 0) {
+        rows++;
+        if (row[0] >= word)
+            break;
+        below = row;
+        side = bits >> 31;
+        uint32_t link = row[1 + side];
+        if (link == 0)
+            break;
+        bits <<= 1;
+        row = table + 3 * (size_t)link;
+    }
+    if (below == NULL) {
+        answer(reply, NO_SUCH_WORD, 0, rows, width, count);
+        return;
+    }
+    uint32_t key = below[0];
+    if (side != 0 && below[1] != 0)
+        key = greatest(table, below[1], &rows);
+    answer(reply, DONE, key, rows, width, count);
+}
+
+/* One way serves for both neighbours: they differ only behind its end. */
+READING_WORD(plain_gap)
+{
+    UNUSED(length);
+    uint32_t bits = aligned(word, width), rows = 0, side = 0, aside = 0, above = 0, nearest = UINT32_MAX;
+    const uint32_t *row = table, *below = NULL;
+    if (count == 0) {
+        answer(reply, NO_SUCH_WORD, 0, 0, width, count);
+        return;
+    }
+    for (;;) {
+        rows++;
+        if (row[0] >= word) {
+            above = row[0];
+            break;
+        }
+        below = row;
+        side = bits >> 31;
+        uint32_t link = row[1 + side], skipped = row[2] & (side - 1);
+        if (skipped != 0)
+            aside = skipped;
+        if (link == 0)
+            break;
+        bits <<= 1;
+        row = table + 3 * (size_t)link;
+    }
+    if (above == word) {
+        answer(reply, DONE, 0, rows, width, count);
+        return;
+    }
+    rows *= 2;
+    if (above == 0 && aside != 0) {
+        above = table[3 * (size_t)aside];
+        rows++;
+    }
+    if (above != 0)
+        nearest = above - word;
+    if (below != NULL) {
+        uint32_t key = below[0];
+        if (side != 0 && below[1] != 0)
+            key = greatest(table, below[1], &rows);
+        if (word - key < nearest)
+            nearest = word - key;
+    }
+    answer(reply, DONE, nearest, rows, width, count);
+}
+
+READING(plain_first)
+{
+    UNUSED(length);
+    if (count == 0)
+        answer(reply, NO_SUCH_WORD, 0, 0, width, count);
+    else
+        answer(reply, DONE, table[0], 1, width, count);
+}
+
+READING(plain_last)
+{
+    UNUSED(length);
+    uint32_t rows = 0;
+    if (count == 0) {
+        answer(reply, NO_SUCH_WORD, 0, 0, width, count);
+        return;
+    }
+    uint32_t key = greatest(table, 0, &rows);
+    answer(reply, DONE, key, rows, width, count);
+}
+
+WRITING_WORD(plain_add)
+{
+    UNUSED(length);
+    uint32_t bits = aligned(word, width), rows = 0, key = word;
+    uint32_t *row = table, *link = NULL;
+    while (count != 0) {
+        rows++;
+        if (row[0] >= word)
+            break;
+        link = row + 1 + (bits >> 31);
+        if (*link == 0)
+            goto placed;
+        bits <<= 1;
+        row = table + 3 * (size_t)*link;
+    }
+    if (count != 0 && row[0] == word) {
+        answer(reply, ALREADY_THERE, 0, rows, width, count);
+        return;
+    }
+    /* the row takes the word, and its old key is pushed down by its own bits */
+    for (uint32_t depth = rows + 31 - width; count != 0; depth++) {
+        uint32_t old = row[0];
+        row[0] = key;
+        key = old;
+        link = row + 1 + (key << depth >> 31);
+        if (*link == 0)
+            break;
+        row = table + 3 * (size_t)*link;
+        rows++;
+    }
+placed:
+    row = table + 3 * (size_t)count;
+    row[0] = key;
+    row[1] = 0;
+    row[2] = 0;
+    if (link != NULL)
+        *link = count;
+    answer(reply, DONE, 0, rows, width, count + 1);
+}
+
+WRITING_WORD(plain_del)
+{
+    UNUSED(length);
+    uint32_t bits = aligned(word, width), rows = 0, moved = 0;
+    uint32_t *row = table, *link = NULL;
+    while (count != 0) {
+        rows++;
+        if (row[0] >= word)
+            break;
+        link = row + 1 + (bits >> 31);
+        if (*link == 0)
+            break;
+        bits <<= 1;
+        row = table + 3 * (size_t)*link;
+    }
+    if (count == 0 || row[0] != word) {
+        answer(reply, NO_SUCH_WORD, 0, rows, width, count);
+        return;
+    }
+    /* each row takes the key below, by left link, else right link; the last is the hole */
+    for (;;) {
+        uint32_t *down = row[1] != 0 ? row + 1 : row + 2;
+        if (*down == 0)
+            break;
+        link = down;
+        uint32_t *below = table + 3 * (size_t)*down;
+        row[0] = below[0];
+        row = below;
+        rows++;
+    }
+    uint32_t hole = link == NULL ? 0 : *link, last = count - 1;
+    if (link != NULL)
+        *link = 0;
+    uint32_t *end = table + 3 * (size_t)last;
+    if (hole != last) {
+        /* the way to the last row: its key has the bits of its path, so only links are read */
+        uint32_t path = aligned(end[0], width), at = 0, *to = NULL;
+        for (moved = 1; at != last; moved++) {
+            to = table + 3 * (size_t)at + 1 + (path >> 31);
+            path <<= 1;
+            at = *to;
+        }
+        row[0] = end[0];
+        row[1] = end[1];
+        row[2] = end[2];
+        *to = hole;
+    }
+    end[0] = 0;
+    end[1] = 0;
+    end[2] = 0;
+    *reply = (Reply){DONE, 0, rows, moved, width, last};
+}
+
+/* The rows of a row's part, or -1 where it has damage. `low` is the least key that may come next: keys strictly increase in this order. */
+static int64_t sound_rows(const uint32_t *table, uint32_t count, uint32_t at, uint32_t bits, uint64_t path, uint64_t *low)
+{
+    if (at >= count)
+        return -1;
+    const uint32_t *row = table + 3 * (size_t)at;
+    uint64_t key = row[0];
+    if (key < *low || key >> bits != path)
+        return -1;
+    *low = key + 1;
+    if (bits == 0)
+        return row[1] == 0 && row[2] == 0 ? 1 : -1;
+    int64_t rows = 1;
+    for (uint32_t side = 0; side < 2; side++) {
+        if (row[1 + side] == 0)
+            continue;
+        int64_t more = sound_rows(table, count, row[1 + side], bits - 1, path * 2 + side, low);
+        if (more < 0)
+            return -1;
+        rows += more;
+    }
+    return rows;
+}
+
+READING(plain_audit)
+{
+    UNUSED(length);
+    uint64_t low = 0;
+    int sound = count == 0 || sound_rows(table, count, 0, width, 0, &low) == count;
+    answer(reply, sound ? DONE : 4, 0, sound ? count : 0, width, count);
+}
+
+LISTING(plain_list)
+{
+    UNUSED(length);
+    UNUSED(room);
+    uint32_t waiting[33], n = 0, at = 0;
+    if (count != 0) {
+        for (;;) {
+            const uint32_t *row = table + 3 * (size_t)at;
+            *buffer++ = row[0];
+            if (row[1] != 0) {
+                at = row[1];
+                if (row[2] != 0)
+                    waiting[n++] = row[2];
+            } else if (row[2] != 0) {
+                at = row[2];
+            } else if (n != 0) {
+                at = waiting[--n];
+            } else {
+                break;
+            }
+        }
+    }
+    answer(reply, DONE, 0, count, width, count);
+}
+
+WRITING_WORD(plain_new)
+{
+    UNUSED(width);
+    UNUSED(count);
+    size_t capacity = length / 3 < 65535 ? length / 3 : 65535;
+    memset(table, 0, capacity * 3 * sizeof *table);
+    answer(reply, DONE, 0, 0, word, 0);
+}

@@ -1,0 +1,612 @@
+// Runs the same calls on the proved library, on unchecked C, and on other ordered sets, in one process.
+//
+//     speed check            compares all of them on random calls; any difference ends it with status 1
+//     speed time N ROUNDS    writes a line for each call and set: call, set, N, calls, rows read, picoseconds a call
+//     speed count N          the same without times, for callgrind: a dump named "call set" for each line
+//
+// The sets take turns, a round each. A time is the best round's, after a first that does not count; a round's time is the median of its
+// slices of at most 1,024 calls. So what else the machine does in between counts little.
+//
+// Words are 32 bits wide but in `check`. Every set gets the same words and the same calls, and all must give the same answers.
+#include "calls.h"
+
+#include <algorithm>
+#include <chrono>
+#include <cmath>
+#include <cstdio>
+#include <cstdlib>
+#include <cstring>
+#include <random>
+#include <set>
+#include <string>
+#include <tuple>
+#include <unordered_set>
+#include <vector>
+
+#ifdef HAVE_ABSL
+#include <absl/container/btree_set.h>
+#endif
+#ifdef HAVE_JUDY
+#include <Judy.h>
+#endif
+#ifdef HAVE_VALGRIND
+#include <valgrind/callgrind.h>
+#else
+#define CALLGRIND_TOGGLE_COLLECT
+#define CALLGRIND_ZERO_STATS
+#define CALLGRIND_DUMP_STATS_AT(label) (void)(label)
+#endif
+
+using Words = std::vector<uint32_t>;
+
+[[noreturn]] static void differ(const std::string &what)
+{
+    fprintf(stderr, "speed: DIFFERENCE: %s\n", what.c_str());
+    exit(1);
+}
+
+// ---- The sets ----
+
+struct Answer {
+    uint32_t number, key;
+    bool operator==(const Answer &other) const { return number == other.number && key == other.key; }
+};
+
+struct Proved {
+    static constexpr const char *name = "library";
+    static constexpr auto has = words_has, next = words_next, prev = words_prev, gap = words_gap;
+    static constexpr auto first = words_first, last = words_last, audit = words_audit;
+    static constexpr auto add = words_add, del = words_del, renew = words_new;
+    static constexpr auto list = words_list;
+};
+
+struct Plain {
+    static constexpr const char *name = "C";
+    static constexpr auto has = plain_has, next = plain_next, prev = plain_prev, gap = plain_gap;
+    static constexpr auto first = plain_first, last = plain_last, audit = plain_audit;
+    static constexpr auto add = plain_add, del = plain_del, renew = plain_new;
+    static constexpr auto list = plain_list;
+};
+
+// A PreTree in a table.
+template <class Calls> struct Table {
+    static constexpr const char *name = Calls::name;
+    static constexpr bool is_table = true;
+    Words table;
+    Reply reply{};
+
+    Answer told() const { return {reply.answer, reply.key}; }
+    void renew(uint32_t width) { Calls::renew(reply.width, reply.count, table.data(), table.size(), width, &reply); }
+    void build(const Words &words, size_t capacity, uint32_t width = 32)
+    {
+        table.assign(3 * capacity, 1);
+        renew(width);
+        for (uint32_t word : words)
+            add(word);
+    }
+    Answer has(uint32_t k) { return Calls::has(reply.width, reply.count, table.data(), table.size(), k, &reply), told(); }
+    Answer next(uint32_t k) { return Calls::next(reply.width, reply.count, table.data(), table.size(), k, &reply), told(); }
+    Answer prev(uint32_t k) { return Calls::prev(reply.width, reply.count, table.data(), table.size(), k, &reply), told(); }
+    Answer gap(uint32_t k) { return Calls::gap(reply.width, reply.count, table.data(), table.size(), k, &reply), told(); }
+    Answer add(uint32_t k) { return Calls::add(reply.width, reply.count, table.data(), table.size(), k, &reply), told(); }
+    Answer del(uint32_t k) { return Calls::del(reply.width, reply.count, table.data(), table.size(), k, &reply), told(); }
+    Answer first() { return Calls::first(reply.width, reply.count, table.data(), table.size(), &reply), told(); }
+    Answer last() { return Calls::last(reply.width, reply.count, table.data(), table.size(), &reply), told(); }
+    Answer audit() { return Calls::audit(reply.width, reply.count, table.data(), table.size(), &reply), told(); }
+    size_t list(Words &to)
+    {
+        Calls::list(reply.width, reply.count, table.data(), table.size(), to.data(), to.size(), &reply);
+        return reply.count;
+    }
+};
+
+// The distance to the nearer of two neighbours, of which there may be one or none.
+static Answer nearer(bool some_below, uint32_t below, bool some_above, uint32_t above, uint32_t k)
+{
+    if (!some_below && !some_above)
+        return {NO_SUCH_WORD, 0};
+    if (!some_below)
+        return {DONE, above - k};
+    if (!some_above)
+        return {DONE, k - below};
+    return {DONE, std::min(k - below, above - k)};
+}
+
+// std::set and absl::btree_set
+template <class Set> struct Ordered {
+    static constexpr bool is_table = false;
+    Set set;
+
+    void build(const Words &words, size_t, uint32_t = 32)
+    {
+        set.clear();
+        for (uint32_t word : words)
+            set.insert(word);
+    }
+    Answer at(typename Set::iterator i) { return i == set.end() ? Answer{NO_SUCH_WORD, 0} : Answer{DONE, *i}; }
+    Answer has(uint32_t k) { return {set.find(k) == set.end() ? NO_SUCH_WORD : DONE, 0}; }
+    Answer next(uint32_t k) { return at(set.upper_bound(k)); }
+    Answer prev(uint32_t k)
+    {
+        auto i = set.lower_bound(k);
+        return i == set.begin() ? Answer{NO_SUCH_WORD, 0} : Answer{DONE, *--i};
+    }
+    Answer gap(uint32_t k)
+    {
+        auto above = set.lower_bound(k);
+        if (above != set.end() && *above == k)
+            return {DONE, 0};
+        bool some_above = above != set.end(), some_below = above != set.begin();
+        uint32_t upper = some_above ? *above : 0, lower = some_below ? *--above : 0;
+        return nearer(some_below, lower, some_above, upper, k);
+    }
+    Answer first() { return at(set.begin()); }
+    Answer last() { return set.empty() ? Answer{NO_SUCH_WORD, 0} : Answer{DONE, *set.rbegin()}; }
+    Answer add(uint32_t k) { return {set.insert(k).second ? DONE : ALREADY_THERE, 0}; }
+    Answer del(uint32_t k) { return {set.erase(k) != 0 ? DONE : NO_SUCH_WORD, 0}; }
+    size_t list(Words &to) { return std::copy(set.begin(), set.end(), to.begin()) - to.begin(); }
+};
+
+struct StdSet : Ordered<std::set<uint32_t>> {
+    static constexpr const char *name = "std::set";
+};
+
+#ifdef HAVE_ABSL
+struct BtreeSet : Ordered<absl::btree_set<uint32_t>> {
+    static constexpr const char *name = "absl::btree_set";
+};
+#endif
+
+#ifdef HAVE_JUDY
+struct Judy {
+    static constexpr const char *name = "Judy1";
+    static constexpr bool is_table = false;
+    Pvoid_t set = nullptr;
+
+    ~Judy() { Judy1FreeArray(&set, PJE0); }
+    void build(const Words &words, size_t, uint32_t = 32)
+    {
+        Judy1FreeArray(&set, PJE0);
+        for (uint32_t word : words)
+            Judy1Set(&set, word, PJE0);
+    }
+    static Answer at(int found, Word_t k) { return found ? Answer{DONE, uint32_t(k)} : Answer{NO_SUCH_WORD, 0}; }
+    Answer has(uint32_t k) { return {Judy1Test(set, k, PJE0) ? DONE : NO_SUCH_WORD, 0}; }
+    Answer next(uint32_t word)
+    {
+        Word_t k = word;
+        int found = Judy1Next(set, &k, PJE0);
+        return at(found, k);
+    }
+    Answer prev(uint32_t word)
+    {
+        Word_t k = word;
+        int found = Judy1Prev(set, &k, PJE0);
+        return at(found, k);
+    }
+    Answer gap(uint32_t word)
+    {
+        Word_t above = word, below = word;
+        bool some_above = Judy1First(set, &above, PJE0);
+        if (some_above && above == word)
+            return {DONE, 0};
+        bool some_below = Judy1Prev(set, &below, PJE0);
+        return nearer(some_below, below, some_above, above, word);
+    }
+    Answer first()
+    {
+        Word_t k = 0;
+        int found = Judy1First(set, &k, PJE0);
+        return at(found, k);
+    }
+    Answer last()
+    {
+        Word_t k = -1;
+        int found = Judy1Last(set, &k, PJE0);
+        return at(found, k);
+    }
+    Answer add(uint32_t k) { return {Judy1Set(&set, k, PJE0) ? DONE : ALREADY_THERE, 0}; }
+    Answer del(uint32_t k) { return {Judy1Unset(&set, k, PJE0) ? DONE : NO_SUCH_WORD, 0}; }
+    size_t list(Words &to)
+    {
+        size_t n = 0;
+        Word_t k = 0;
+        for (int found = Judy1First(set, &k, PJE0); found; found = Judy1Next(set, &k, PJE0))
+            to[n++] = uint32_t(k);
+        return n;
+    }
+};
+#endif
+
+struct Sorted {
+    static constexpr const char *name = "sorted array";
+    static constexpr bool is_table = false;
+    Words set;
+
+    void build(const Words &words, size_t capacity, uint32_t = 32)
+    {
+        set = words;
+        set.reserve(capacity);
+        std::sort(set.begin(), set.end());
+    }
+    Words::iterator from(uint32_t k) { return std::lower_bound(set.begin(), set.end(), k); }
+    Answer has(uint32_t k)
+    {
+        auto i = from(k);
+        return {i != set.end() && *i == k ? DONE : NO_SUCH_WORD, 0};
+    }
+    Answer next(uint32_t k)
+    {
+        auto i = std::upper_bound(set.begin(), set.end(), k);
+        return i == set.end() ? Answer{NO_SUCH_WORD, 0} : Answer{DONE, *i};
+    }
+    Answer prev(uint32_t k)
+    {
+        auto i = from(k);
+        return i == set.begin() ? Answer{NO_SUCH_WORD, 0} : Answer{DONE, i[-1]};
+    }
+    Answer gap(uint32_t k)
+    {
+        auto i = from(k);
+        bool some_above = i != set.end(), some_below = i != set.begin();
+        if (some_above && *i == k)
+            return {DONE, 0};
+        return nearer(some_below, some_below ? i[-1] : 0, some_above, some_above ? *i : 0, k);
+    }
+    Answer first() { return set.empty() ? Answer{NO_SUCH_WORD, 0} : Answer{DONE, set.front()}; }
+    Answer last() { return set.empty() ? Answer{NO_SUCH_WORD, 0} : Answer{DONE, set.back()}; }
+    Answer add(uint32_t k)
+    {
+        auto i = from(k);
+        if (i != set.end() && *i == k)
+            return {ALREADY_THERE, 0};
+        set.insert(i, k);
+        return {DONE, 0};
+    }
+    Answer del(uint32_t k)
+    {
+        auto i = from(k);
+        if (i == set.end() || *i != k)
+            return {NO_SUCH_WORD, 0};
+        set.erase(i);
+        return {DONE, 0};
+    }
+    size_t list(Words &to) { return std::copy(set.begin(), set.end(), to.begin()) - to.begin(); }
+};
+
+using Sets = std::tuple<Table<Proved>, Table<Plain>, StdSet
+#ifdef HAVE_ABSL
+    , BtreeSet
+#endif
+#ifdef HAVE_JUDY
+    , Judy
+#endif
+    , Sorted>;
+
+template <class F> static void each(Sets &sets, F f)
+{
+    std::apply([&](auto &...set) { (f(set), ...); }, sets);
+}
+
+// ---- The calls ----
+
+#define CALL(Type, call) \
+    struct Type { \
+        static constexpr const char *name = #call; \
+        template <class Set> static Answer of(Set &set, uint32_t k) { return set.call(k); } \
+    }
+#define CALL_ALONE(Type, call) \
+    struct Type { \
+        static constexpr const char *name = #call; \
+        template <class Set> static Answer of(Set &set, uint32_t) { return set.call(); } \
+    }
+CALL(Has, has);
+CALL(Next, next);
+CALL(Prev, prev);
+CALL(Gap, gap);
+CALL(Add, add);
+CALL(Del, del);
+CALL_ALONE(First, first);
+CALL_ALONE(Last, last);
+CALL_ALONE(Audit, audit);
+
+struct New {
+    static constexpr const char *name = "new";
+    template <class Set> static Answer of(Set &set, uint32_t) { return set.renew(32), set.told(); }
+};
+
+struct List {
+    static constexpr const char *name = "list";
+    static inline Words to = Words(65535);
+    template <class Set> static Answer of(Set &set, uint32_t) { return {DONE, uint32_t(set.list(to))}; }
+};
+
+// ---- The meter ----
+
+// How many calls are timed at once: one where a call reads every row.
+template <class Call> constexpr size_t slice = 1024;
+template <> constexpr size_t slice<List> = 1;
+template <> constexpr size_t slice<Audit> = 1;
+template <> constexpr size_t slice<New> = 1;
+
+// Times, or the instructions that callgrind collects; and what was answered, which has to be the same for every set.
+struct Meter {
+    bool counts = false;
+    uint64_t calls = 0, rows = 0, answers = 0;
+    std::vector<double> slices; // nanoseconds a call
+
+    double median()
+    {
+        std::sort(slices.begin(), slices.end());
+        return slices[(slices.size() - 1) / 2];
+    }
+
+    template <class Call, class Set> __attribute__((noinline)) void made(Set &set, const uint32_t *words, size_t n)
+    {
+        uint64_t sum = 0;
+        for (size_t i = 0; i < n; i++) {
+            Answer a = Call::of(set, words[i]);
+            sum += a.number * 1000003u + a.key;
+            asm volatile("" ::: "memory"); // no call is left out because it answers what the one before it did
+        }
+        answers += sum;
+    }
+    // `n` calls, of which call i has the word words[i], metered
+    template <class Call, class Set> void metered(Set &set, const uint32_t *words, size_t n)
+    {
+        calls += n;
+        if (counts) {
+            CALLGRIND_TOGGLE_COLLECT;
+            made<Call>(set, words, n);
+            CALLGRIND_TOGGLE_COLLECT;
+            return;
+        }
+        for (size_t from = 0; from < n; from += slice<Call>) {
+            size_t some = std::min(slice<Call>, n - from);
+            auto began = std::chrono::steady_clock::now();
+            made<Call>(set, words + from, some);
+            std::chrono::duration<double, std::nano> took = std::chrono::steady_clock::now() - began;
+            slices.push_back(took.count() / some);
+        }
+    }
+    // the same without the meter, to change the set or to sum the rows
+    template <class Call, class Set> void unmetered(Set &set, const uint32_t *words, size_t n)
+    {
+        for (size_t i = 0; i < n; i++) {
+            Call::of(set, words[i]);
+            if constexpr (Set::is_table)
+                rows += set.reply.rows + set.reply.moved;
+        }
+    }
+};
+
+// ---- What is run ----
+
+// The words of a set, the words that are asked of it, and batches of words to add and then to delete, after which the set is as large
+// as before.
+struct Plan {
+    size_t n;
+    Words words, asked, base;
+    std::vector<std::pair<Words, Words>> batches;
+
+    Plan(size_t n, size_t calls) : n(n)
+    {
+        std::mt19937 random(n);
+        std::unordered_set<uint32_t> seen;
+        auto fresh = [&] {
+            uint32_t word;
+            do
+                word = random();
+            while (!seen.insert(word).second);
+            return word;
+        };
+        while (words.size() < n)
+            words.push_back(fresh());
+        while (asked.size() < calls) {
+            uint32_t word = random();
+            asked.push_back(random() % 2 != 0 ? word : words[word % n]);
+        }
+        size_t batch = n / 8;
+        base.assign(words.begin(), words.end() - batch);
+        Words members = base;
+        for (size_t made = 0; made + batch <= calls; made += batch) {
+            Words adds, dels;
+            for (size_t i = 0; i < batch; i++)
+                members.push_back(adds.emplace_back(fresh()));
+            for (size_t i = 0; i < batch; i++) {
+                std::swap(members[random() % members.size()], members.back());
+                dels.push_back(members.back());
+                members.pop_back();
+            }
+            batches.emplace_back(adds, dels);
+        }
+    }
+};
+
+struct Runner {
+    Plan plan;
+    bool counts;
+    int rounds;
+    Sets sets;
+
+    Runner(size_t n, size_t calls, bool counts, int rounds) : plan(n, calls), counts(counts), rounds(rounds) {}
+
+    // Runs `work(set, meter)` on every set in turn, for `rounds` rounds after one that is not counted, and writes a line for each set.
+    template <class Accepts, class Work> void row(const char *call, Accepts accepts, Work work)
+    {
+        struct Result {
+            std::string name;
+            uint64_t calls = 0, rows = 0, answers = 0;
+            double best = HUGE_VAL;
+        };
+        std::vector<Result> results;
+        for (int round = counts ? 1 : 0; round <= rounds; round++) {
+            size_t at = 0;
+            each(sets, [&](auto &set) {
+                if constexpr (decltype(accepts(set))::value) {
+                    Meter meter;
+                    meter.counts = counts;
+                    CALLGRIND_ZERO_STATS;
+                    work(set, meter);
+                    if (counts) {
+                        std::string label = std::string(call) + " " + set.name;
+                        CALLGRIND_DUMP_STATS_AT(label.c_str());
+                    }
+                    if (at == results.size())
+                        results.push_back({set.name, meter.calls, meter.rows, meter.answers});
+                    Result &result = results[at++];
+                    if (meter.answers != results[0].answers)
+                        differ(std::string(call) + " of " + result.name + " at " + std::to_string(plan.n) + " words");
+                    if (!counts && round > 0)
+                        result.best = std::min(result.best, meter.median());
+                }
+            });
+        }
+        for (Result &result : results)
+            printf("%s\t%s\t%zu\t%zu\t%zu\t%.0f\n", call, result.name.c_str(), plan.n, size_t(result.calls), size_t(result.rows),
+                counts ? 0 : 1000 * result.best);
+        fflush(stdout);
+    }
+
+    static constexpr auto all = [](auto &) { return std::true_type{}; };
+    static constexpr auto tables = [](auto &set) { return std::bool_constant<std::decay_t<decltype(set)>::is_table>{}; };
+
+    template <class Call, class Accepts> void reads(Accepts accepts, size_t calls)
+    {
+        row(Call::name, accepts, [&](auto &set, Meter &meter) {
+            meter.unmetered<Call>(set, plan.asked.data(), calls);
+            meter.metered<Call>(set, plan.asked.data(), calls);
+        });
+    }
+
+    // One of `add` and `del` is metered.
+    template <class Call> void changes()
+    {
+        row(Call::name, all, [&](auto &set, Meter &meter) {
+            set.build(plan.base, plan.n);
+            for (auto &[adds, dels] : plan.batches) {
+                Meter other;
+                if constexpr (std::is_same_v<Call, Add>)
+                    meter.metered<Add>(set, adds.data(), adds.size());
+                else
+                    other.unmetered<Add>(set, adds.data(), adds.size());
+                if constexpr (std::is_same_v<Call, Del>)
+                    meter.metered<Del>(set, dels.data(), dels.size());
+                else
+                    other.unmetered<Del>(set, dels.data(), dels.size());
+            }
+            if constexpr (std::decay_t<decltype(set)>::is_table) { // once more, for the rows
+                set.build(plan.base, plan.n);
+                for (auto &[adds, dels] : plan.batches) {
+                    Meter other;
+                    (std::is_same_v<Call, Add> ? meter : other).template unmetered<Add>(set, adds.data(), adds.size());
+                    (std::is_same_v<Call, Del> ? meter : other).template unmetered<Del>(set, dels.data(), dels.size());
+                }
+            }
+        });
+    }
+
+    void run()
+    {
+        each(sets, [&](auto &set) { set.build(plan.words, plan.n); });
+        size_t calls = plan.asked.size(), whole = std::max<size_t>(2, calls / plan.n);
+        reads<Has>(all, calls);
+        reads<Next>(all, calls);
+        reads<Prev>(all, calls);
+        reads<Gap>(all, calls);
+        reads<First>(all, calls);
+        reads<Last>(all, calls);
+        reads<List>(all, whole);
+        reads<Audit>(tables, whole);
+        changes<Add>();
+        changes<Del>();
+        reads<New>(tables, whole);
+    }
+};
+
+// ---- Validation ----
+
+static std::string said(const char *call, uint32_t k, uint32_t width, const char *name)
+{
+    return std::string(call) + " " + std::to_string(k) + " at width " + std::to_string(width) + ", " + name;
+}
+
+// Random calls on all sets at once, at one width and capacity.
+static size_t compared(uint32_t width, size_t capacity, size_t calls, uint32_t seed)
+{
+    std::mt19937 random(seed);
+    Sets sets;
+    auto &proved = std::get<0>(sets);
+    auto &plain = std::get<1>(sets);
+    each(sets, [&](auto &set) { set.build({}, capacity, width); });
+    uint32_t most = width == 32 ? UINT32_MAX : (1u << width) - 1;
+    // few different words, so that many are found
+    Words words;
+    while (words.size() < capacity * 2)
+        words.push_back(random() & most);
+    auto same = [&](auto call, uint32_t k) {
+        using Call = decltype(call);
+        Answer expected = Call::of(proved, k);
+        each(sets, [&](auto &set) {
+            bool is_proved = static_cast<void *>(&set) == static_cast<void *>(&proved);
+            if (!is_proved && !(Call::of(set, k) == expected))
+                differ(said(Call::name, k, width, set.name));
+        });
+        if (memcmp(&proved.reply, &plain.reply, sizeof(Reply)) != 0)
+            differ(said(Call::name, k, width, "the replies of library and C"));
+        if (proved.table != plain.table)
+            differ(said(Call::name, k, width, "the tables of library and C"));
+    };
+    for (size_t i = 0; i < calls; i++) {
+        uint32_t k = random() % 4 != 0 ? words[random() % words.size()] : random() & most;
+        switch (random() % 12) {
+        case 0: same(Has{}, k); break;
+        case 1: same(Next{}, k); break;
+        case 2: same(Prev{}, k); break;
+        case 3: same(Gap{}, k); break;
+        case 4: same(First{}, k); break;
+        case 5: same(Last{}, k); break;
+        case 6: case 7: case 8:
+            if (proved.reply.count < capacity)
+                same(Add{}, k);
+            break;
+        case 9: case 10: same(Del{}, k); break;
+        default:
+            if (!(Audit::of(proved, 0) == Audit::of(plain, 0)) || proved.reply.answer != DONE)
+                differ(said("audit", 0, width, "library and C"));
+            std::vector<Words> lists;
+            each(sets, [&](auto &set) {
+                List::to.assign(capacity, 0);
+                List::to.resize(set.list(List::to));
+                lists.push_back(List::to);
+            });
+            for (Words &list : lists)
+                if (list != lists[0])
+                    differ(said("list", 0, width, "a listing"));
+            List::to.assign(65535, 0);
+        }
+    }
+    return calls;
+}
+
+static void check()
+{
+    size_t calls = 0;
+    for (uint32_t width : {1, 2, 3, 4, 5, 8, 13, 16, 24, 31, 32})
+        for (size_t capacity : {1, 2, 3, 10, 100, 1000})
+            calls += compared(width, capacity, capacity < 1000 ? 10000 : 4000, width * 1000 + capacity);
+    printf("%zu calls compared\n", calls);
+}
+
+int main(int n, char **arguments)
+{
+    std::string mode = n > 1 ? arguments[1] : "";
+    if (mode == "check" && n == 2)
+        check();
+    else if (mode == "time" && n == 4)
+        Runner(atoi(arguments[2]), 65536, false, atoi(arguments[3])).run();
+    else if (mode == "count" && n == 3)
+        Runner(atoi(arguments[2]), 8192, true, 1).run();
+    else
+        return fprintf(stderr, "speed: check, time N ROUNDS or count N\n"), 2;
+}
