@@ -1,11 +1,11 @@
 // The line language of the bench: reading a line, and writing the reply to it.
 // Document 01, "The line program".
 
-mod answer;
+pub mod answer;
 mod gather;
-mod parse;
+pub mod parse;
 mod put;
-mod reply;
+pub mod reply;
 mod serve;
 mod session;
 
