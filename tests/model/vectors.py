@@ -264,25 +264,52 @@ def damaged(g):
     return made
 
 
+def some_setting(g):
+    """A line that sets something, with numbers that have a place and numbers that have none."""
+    number = g.one_of([0, 1, 2, 3, 11, 12, 13, g.draw(40), 65536, 65537, 196609, g.wild()])
+    few = [g.one_of([g.draw(16), g.draw(16), g.wild()]) for _ in range(1 + g.draw(9))]
+    return b"\t".join(str(field).encode() for field in g.one_of([
+        ["header", g.draw(34), g.draw(6)], ["header", 4, number], ["header", number], ["header"] + few,
+        ["table", g.draw(40)], ["table", number], ["table", 12, number], ["table"],
+        ["word", g.draw(12)] + few, ["word", number] + few, ["word", g.draw(12)], ["word"],
+        ["buffer", g.draw(12)], ["buffer", number], ["buffer"], ["keep"], ["fresh"], ["keep", number], ["fresh", 0],
+    ]))
+
+
+def wild_settings(g):
+    """Lines of the runner by chance, among them lines that are not read."""
+    made = [op("table", 12), op("new", 4)]
+    for _ in range(1000):
+        p = g.draw(8)
+        if p < 2:
+            made.append(some_setting(g))
+        elif p == 2:
+            made.append(g.one_of([wild_line(g), b" " + some_setting(g), some_setting(g) + b"\t", some_setting(g).upper()]))
+        else:
+            made += mixed(g, 4, list(range(16)), 1, True)
+    return made
+
+
 # Name, the parts of which its lines are made, whether the last line has its byte 10, and the model that answers. A part begins with what
 # the one before it left.
 FILES = [
     ("vectors_small", [lambda g: small(g, 1, 400), lambda g: small(g, 3, 900), width8, lambda g: small(g, 2, 600)], False, lines.run),
     ("vectors_large", [width31, width32, width32_reversed], True, lines.run),
     ("vectors_wild", [new_in_the_middle, wild, no_end], False, lines.run),
-    ("raw", [edges, damaged], False, raw.run),
+    ("raw", [edges, damaged, wild_settings], False, raw.run),
 ]
 
 
-def made_by(seed):
-    """Of each file, for a seed: its name, its lines, what ends the last of them, and the model that answers."""
+def made_by(seed, wanted=lambda model: True):
+    """Of each file whose model is wanted, for a seed: its name, its lines, what ends the last of them, and the model that answers."""
     place = 0
     for name, parts, ended, model in FILES:
-        made = []
-        for make in parts:
-            made += make(Dice(seed * 1000 + place))
-            place += 1
-        yield name, made, b"\n" if ended else b"", model
+        if wanted(model):
+            made = []
+            for i, make in enumerate(parts):
+                made += make(Dice(seed * 1000 + place + i))
+            yield name, made, b"\n" if ended else b"", model
+        place += len(parts)
 
 
 def contents(seed):
