@@ -1,4 +1,4 @@
-"""The runner for raw tables (docs/RAW.md): bytes in, bytes out.
+"""The runner for raw tables (README.md, "A raw table"): bytes in, bytes out.
 
     python3 raw.py <lines >replies
 """

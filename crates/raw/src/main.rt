@@ -1,6 +1,6 @@
 // A runner for raw tables: a header, a table and a buffer of any words are set by lines on standard input, and any call is run on them.
 // For each call it writes the reply as the line program does, the header that is handed back, and each word that the call changed.
-// docs/RAW.md has its lines.
+// README.md, "A raw table", has its lines.
 
 mod ask;
 mod read;
