@@ -1,6 +1,8 @@
 // A call on what was set. It runs on a copy of the table, so that each word it changed can be told.
 
+use crate::Buffer;
 use crate::State;
+use crate::Table;
 use crate::tell;
 use lines::answer::Ran;
 use pretree::Call;
@@ -18,9 +20,9 @@ pub(crate) const BLANK: u32 = 2863311530;
 pub(crate) fn on_set(
     state: State,
     call: Call,
-    table: &mut [u32; 196608],
-    left: &mut [u32; 196608],
-    list: &mut [u32; 65536],
+    table: &mut Table,
+    left: &mut Table,
+    list: &mut Buffer,
 ) -> State
     requires { ⌜ Fits state ⌝ }
     ensures { λ r. ⌜ Fits r ⌝ }
@@ -45,6 +47,8 @@ fn tried(call: Call, state: State, table: &[u32], left: &mut [u32], list: &mut [
 
 fn told(call: Call, state: State, table: &[u32], left: &mut [u32], list: &mut [u32]) -> Ran
     requires { ⌜ length (now left) ≡ length (now table) ⌝ }
+    ensures { λ r. ⌜ Runs call (after call (state .header) (now (table .entry)) (replicate (length (now (list .entry))) 2863311530))
+        r (now (left .exit)) (now (list .exit)) ⌝ }
 {
     let ran = ask(call, state.header, table, left, list);
     tell::reply(state.lines, ran.reply);

@@ -13,9 +13,16 @@ use pretree::Header;
 use read::Word;
 use read::tab_from;
 use read::word_of;
-ghost use Prim.Native.Nat.{_<_, _≤_};
-ghost use lib.ListN.{length};
+ghost use Prim.Native.Nat.{_≤_};
 ghost use Rattle.raw.specs.Fits.{Fits};
+
+// The room for a table, one row more than the largest capacity; for a buffer, one word more; and for a line of 256 bytes, one byte more,
+// which says that it is too long.
+type Table = [u32; 196608];
+
+type Buffer = [u32; 65536];
+
+type Bytes = [u8; 257];
 
 // What is kept between two bytes of input. The words of the table and of the line stand beside it.
 pub struct State {
@@ -30,9 +37,7 @@ pub struct State {
     pub held: usize,
 }
 
-// A table may have one row more than the largest capacity, and a buffer one word more. A line has at most 256 bytes; of a longer one 257
-// are held. A proved loop has to end, and nothing says that the input does. So the loop counts its turns down, from a number that no run
-// uses up.
+// A proved loop has to end, and nothing says that the input does. So the loop counts its turns down, from a number that no run uses up.
 fn main() {
     let mut table = [0u32; 196608];
     let mut left = [0u32; 196608];
@@ -94,10 +99,10 @@ fn heard(
     before: State,
     input: &[u8; 65536],
     n: usize,
-    line: &mut [u8; 257],
-    table: &mut [u32; 196608],
-    left: &mut [u32; 196608],
-    list: &mut [u32; 65536],
+    line: &mut Bytes,
+    table: &mut Table,
+    left: &mut Table,
+    list: &mut Buffer,
 ) -> State
     requires { ⌜ (Fits before) × (n ≤ 65536) ⌝ }
     ensures { λ r. ⌜ Fits r ⌝ }
@@ -114,10 +119,10 @@ fn heard(
 fn one_byte(
     state: State,
     byte: u8,
-    line: &mut [u8; 257],
-    table: &mut [u32; 196608],
-    left: &mut [u32; 196608],
-    list: &mut [u32; 65536],
+    line: &mut Bytes,
+    table: &mut Table,
+    left: &mut Table,
+    list: &mut Buffer,
 ) -> State
     requires { ⌜ Fits state ⌝ }
     ensures { λ r. ⌜ Fits r ⌝ }
@@ -157,9 +162,9 @@ impl State {
 fn one_line(
     state: State,
     line: &[u8],
-    table: &mut [u32; 196608],
-    left: &mut [u32; 196608],
-    list: &mut [u32; 65536],
+    table: &mut Table,
+    left: &mut Table,
+    list: &mut Buffer,
 ) -> State
     requires { ⌜ Fits state ⌝ }
     ensures { λ r. ⌜ Fits r ⌝ }
@@ -184,9 +189,9 @@ fn one_line(
 fn called(
     state: State,
     line: &[u8],
-    table: &mut [u32; 196608],
-    left: &mut [u32; 196608],
-    list: &mut [u32; 65536],
+    table: &mut Table,
+    left: &mut Table,
+    list: &mut Buffer,
 ) -> State
     requires { ⌜ Fits state ⌝ }
     ensures { λ r. ⌜ Fits r ⌝ }

@@ -1,6 +1,7 @@
 // The lines that set something. A line with another number of numbers, or with one that has no place, is not read.
 
 use crate::State;
+use crate::Table;
 use crate::ask::copy;
 use crate::ask::fill;
 use crate::read::Found;
@@ -13,7 +14,7 @@ ghost use Prim.Native.Nat.{_+_, _≤_};
 ghost use lib.ListN.{length};
 ghost use Rattle.raw.specs.Fits.{Fits};
 
-pub(crate) fn by_line(state: State, word: Word, rest: &[u8], table: &mut [u32; 196608]) -> State
+pub(crate) fn by_line(state: State, word: Word, rest: &[u8], table: &mut Table) -> State
     requires { ⌜ Fits state ⌝ }
     ensures { λ r. ⌜ Fits r ⌝ }
 {
@@ -27,7 +28,7 @@ fn by_numbers(
     word: Word,
     found: Found,
     values: &[u32; 128],
-    table: &mut [u32; 196608],
+    table: &mut Table,
 ) -> State
     requires { ⌜ (Fits state) × (found .count ≤ 128) ⌝ }
     ensures { λ r. ⌜ Fits r ⌝ }
@@ -41,7 +42,7 @@ fn by_numbers(
     }
 }
 
-fn by_word(state: State, word: Word, values: &[u32], table: &mut [u32; 196608]) -> State
+fn by_word(state: State, word: Word, values: &[u32], table: &mut Table) -> State
     requires { ⌜ Fits state ⌝ }
     ensures { λ r. ⌜ Fits r ⌝ }
 {
@@ -72,7 +73,7 @@ fn header(mut state: State, values: &[u32]) -> State
 }
 
 // table n: n words, all of them 0
-fn table_of(mut state: State, values: &[u32], table: &mut [u32; 196608]) -> State
+fn table_of(mut state: State, values: &[u32], table: &mut Table) -> State
     requires { ⌜ Fits state ⌝ }
     ensures { λ r. ⌜ Fits r ⌝ }
 {
@@ -95,7 +96,7 @@ fn clear(table: &mut [u32], n: usize)
 }
 
 // word i v v ..: the words of the table from word i on
-fn words(state: State, values: &[u32], table: &mut [u32; 196608]) -> State
+fn words(state: State, values: &[u32], table: &mut Table) -> State
     requires { ⌜ Fits state ⌝ }
     ensures { λ r. ⌜ Fits r ⌝ }
 {
