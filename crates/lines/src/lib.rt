@@ -1,6 +1,7 @@
 // The line language of the bench: reading a line, and writing the reply to it.
 // Document 01, "The line program".
 
+// A call run, a line read and a reply said are for crate `raw` too.
 pub mod answer;
 mod gather;
 pub mod parse;

@@ -1,5 +1,5 @@
+-- After each byte what is kept fits.
 use Prim.Native.Nat.{_-_, _≤_}
-use lib.ListN.{length}
 use borrow.Author.Needs.{needs}
 use Rattle.raw.specs.Fits.{Fits}
 use Rattle.raw.proofs.heard.Statement.{statement}

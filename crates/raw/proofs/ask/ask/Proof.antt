@@ -4,7 +4,10 @@ use Rattle.raw.proofs.ask.ask.Statement.{statement}
 use Rattle.raw.proofs.ask.ask.Tie as tie
 
 returns : tie.Need-returns
-returns c = rw (← c .before .before .before .before .before .before .before .before .before .before .before .before .before .copy .ensures, ← c .before .before .before .before .before .before .before .before .before .fill .ensures) (c .before .before .before .before .run .ensures)
+returns c =
+    let copied = c .before .before .before .before .before .before .before .before .before .before .before .before .before .copy .ensures in
+    let blank = c .before .before .before .before .before .before .before .before .before .fill .ensures in
+    rw (← copied, ← blank) (c .before .before .before .before .run .ensures)
 
 pub ask-spec : {M : Type 1} → statement M
 ask-spec =

@@ -1,3 +1,4 @@
+-- No more numbers than there is room for, and each field begins behind the one before.
 use Prim.Native.Nat.{_-_, _≤_}
 use lib.ListN.{length}
 use borrow.Author.Needs.{needs}

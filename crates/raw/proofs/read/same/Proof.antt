@@ -1,4 +1,4 @@
--- Both have the same length, and no byte before i differs.
+-- Both have one length, and the loop stays within it.
 use Prim.Native.Nat.{_-_, _≤_}
 use lib.ListN.{length}
 use borrow.Author.Needs.{needs}

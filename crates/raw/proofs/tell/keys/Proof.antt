@@ -1,3 +1,4 @@
+-- The loop stays within the buffer.
 use Prim.Native.Nat.{_-_, _≤_}
 use lib.ListN.{length}
 use borrow.Author.Needs.{needs}

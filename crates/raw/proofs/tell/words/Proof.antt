@@ -1,3 +1,4 @@
+-- Both have one length, and the loop stays within it.
 use Prim.Native.Nat.{_-_, _≤_}
 use lib.ListN.{length}
 use borrow.Author.Needs.{needs}
