@@ -9,10 +9,11 @@ use pretree::Call;
 use pretree::Header;
 ghost use mathlib.Core.Path.{_≡_};
 ghost use Prim.Native.Nat.{_≤_};
-ghost use lib.ListN.{length, replicate};
+ghost use lib.ListN.{length, take, replicate};
 ghost use Rattle.pretree.specs.Call.{after};
 ghost use Rattle.lines.specs.Answering.{Runs};
 ghost use Rattle.raw.specs.Fits.{Fits};
+ghost use Rattle.raw.specs.Asked.{asked, Goes};
 
 // The words of the buffer before each call: 2863311530, every second bit, a word that a listing seldom has.
 pub(crate) const BLANK: u32 = 2863311530;
@@ -26,6 +27,7 @@ pub(crate) fn on_set(
 ) -> State
     requires { ⌜ Fits state ⌝ }
     ensures { λ r. ⌜ Fits r ⌝ }
+    ensures { λ r. ⌜ Goes call state (now (table .entry)) r (now (table .exit)) ⌝ }
 {
     let ran = tried(call, state, table, left, list);
     if state.keep {
@@ -39,6 +41,7 @@ pub(crate) fn on_set(
 fn tried(call: Call, state: State, table: &[u32], left: &mut [u32], list: &mut [u32]) -> Ran
     requires { ⌜ (state .size ≤ length (now table)) × (state .size ≤ length (now left)) ⌝ }
     requires { ⌜ state .room ≤ length (now list) ⌝ }
+    ensures { λ r. ⌜ Runs call (asked call state (now (table .entry))) r (take (state .size) (now (left .exit))) (take (state .room) (now (list .exit))) ⌝ }
 {
     let n = state.size;
     let m = state.room;
@@ -59,6 +62,7 @@ fn told(call: Call, state: State, table: &[u32], left: &mut [u32], list: &mut [u
 
 fn keep(left: &[u32], table: &mut [u32], n: usize)
     requires { ⌜ (n ≤ length (now left)) × (n ≤ length (now table)) ⌝ }
+    ensures { λ r. ⌜ take n (now (table .exit)) ≡ take n (now (left .entry)) ⌝ }
 {
     copy(&left[0..n], &mut table[0..n]);
 }
@@ -67,6 +71,7 @@ impl State {
     fn with(mut self, ran: Ran) -> Self
         requires { ⌜ Fits self ⌝ }
         ensures { λ r. ⌜ Fits r ⌝ }
+        ensures { λ r. ⌜ r .header ≡ ran .reply .header ⌝ }
     {
         let reply = ran.reply;
         let header = reply.header;
