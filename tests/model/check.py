@@ -8,6 +8,7 @@ import damage
 import dictionary
 import lines
 import pretree
+import raw
 from damage import Draw
 from dictionary import Dictionary
 from pretree import Reply
@@ -364,16 +365,48 @@ def watch(kind, call, reply, before, after, *given):
             same("damaged", "last", pretree.last(table, header), d.last())
 
 
+def damaged_tables():
+    refused = set()
+    for kind, header, table, room, apart, _ in damage.tables(7, 1500):
+        for call, *given in apart:
+            after = list(table)
+            reply = CALLS[call](after, header, *([[9] * room] if call == "list" else given))
+            watch(kind, call, reply, (table, header), after, *given)
+            if reply.answer in (2, 4):
+                refused.add(kind)
+    # A sound table, and one with other words past its rows in use, is never refused for damage.
+    same("damaged", "kinds", refused, set(range(damage.KINDS)) - {0, 10})
+
+
+# ---- the runner for raw tables ----
+
+def runner():
+    # With nothing set it is the line program, with lines between the replies.
+    data = tabs(EXAMPLE_IN) + b"\n".join(NOT_READ[1:]) + b"\nlist"
+    replies = [line for line in raw.run(data).splitlines() if line[:1].isdigit()]
+    wanted = [line for line in lines.run(data).splitlines() if line[:1].isdigit()]
+    same("raw", "as the line program", replies, wanted)
+    same("raw", "one row", raw.run(tabs("header 4 1\ntable 3\nword 0 4 0 9\nhas 4\nhas 8\naudit")),
+         tabs("4 0 - 1 0\nheader 4 1\n5 4 - 0 0\nheader 4 1\n6 4 - 0 0\nheader 4 1\n"))
+    # What a call leaves is kept, or not; the buffer is blank before each call.
+    same("raw", "keep and fresh", raw.run(tabs("table 4\nword 0 5 6\nbuffer 2\nfresh\nnew 1\nkeep\nnew 1\nadd 1\nlist\nlist\n")),
+         tabs("5 0 - 0 0\nheader 1 0\nword 0 0\nword 1 0\n7 0 - 0 0\nheader 1 0\nword 0 0\nword 1 0\n"
+              "8 0 - 0 0\nheader 1 1\nword 0 1\n9 0 - 1 0\nheader 1 1\nkey 0 1\n10 0 - 1 0\nheader 1 1\nkey 0 1\n"))
+    # Not read, and nothing changed; comments and empty lines say nothing.
+    bad = ["table 196609", "buffer 65537", "table", "table 1 2", "header 1", "header 1 2 3", "word 0", "word 3 1",
+           "word 2 1 2", "word 4294967295 1", "word 0 1 x", "word 0 1 01", "keep 1", "fresh ", "words 0 1", "x" * 257]
+    same("raw", "not read", raw.run(tabs("header 4 0\ntable 3\n# note\n\n" + "\n".join(bad) + "\nnew 5")),
+         tabs("".join(f"{n} 9 - 0 0\n" for n in range(5, 5 + len(bad))) + f"{5 + len(bad)} 0 - 0 0\nheader 5 0\n"))
+
+
 def main():
     examples()
     read_or_not()
     by_hand()
     every_small_set()
     random_runs()
-    for _ in damage.run(1500, 7, watch):
-        pass
-    for done, h in damage.run(100, 1):
-        same("damaged", "digest", h, damage.SEED_1[done])
+    damaged_tables()
+    runner()
     print("\n".join(f"{kind}\t{n}" for kind, n in counts.items()))
     print("ok")
 

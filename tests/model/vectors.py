@@ -1,15 +1,18 @@
-"""Remakes the vectors of the gate: pairs NAME.stdin, NAME.stdout.
+"""Makes the vectors of the gate: for each program NAME its input, NAME/stdin, and what it must write, NAME/stdout.
 
-    python3 vectors.py SEED OUTDIR
+    python3 vectors.py              writes them into crates/
+    python3 vectors.py compare      compares them with those in crates/; exit status 1 if one differs
+    python3 vectors.py DIR [SEED]   writes them into another folder, from another seed than 1
 
-The same seed gives the same bytes: the only dice are damage.py's generator, started
-for each part with SEED, and the part's place in the list below after it.
+The same seed gives the same bytes: the only dice are damage.py's, started for each part with SEED, and the part's place in the list
+below after it.
 """
 import os
 import sys
 
 import lines
-from damage import Draw
+import raw
+from damage import KINDS, Draw, tables
 
 
 def op(word, k=None):
@@ -229,38 +232,115 @@ def no_end(g):
     return mixed(g, 8, [1, 2, 3], 20, True) + [op("new", 8), op("add", 7), b"", op("list")]
 
 
-# Name, the parts of which its lines are made, whether the last line has its byte 10. A part begins with the set that the one before it left.
+HERE = os.path.dirname(os.path.abspath(__file__))
+CRATES = os.path.join(HERE, "..", "..", "crates")
+
+
+def edges(g):
+    """The documents' examples, and lines of the runner at their edges; a line may have 256 bytes, and a comment more."""
+    with open(os.path.join(HERE, "edges.txt"), "rb") as f:
+        made = f.read().splitlines()
+    for n in (254, 255, 256, 257, 258, 600):
+        made += [b"word\t0" + b"\t4" * (n // 2 - 3) + b" " * (n % 2), b"table\t3" + b" " * (n - 7), b"#" * n, b"audit"]
+    return made + [b"table\t125", b"word\t0" + b"\t4" * 125, b"audit"]
+
+
+def setting(table):
+    """Lines that set a table, six rows to each."""
+    made = [op("table", len(table))]
+    for at in range(0, len(table), 18):
+        made.append("\t".join(map(str, ["word", at] + table[at:at + 18])).encode())
+    return made
+
+
+def damaged(g):
+    """Every call on tables of every kind of damage, and then some calls one after the other."""
+    made = []
+    for kind, header, table, room, apart, after in tables(g.wild(), 46 * KINDS):
+        made += [f"# damage of kind {kind}".encode(), "\t".join(map(str, ("header",) + header)).encode()]
+        made += setting(table) + [op("buffer", room)]
+        made += [op("fresh")] + [op(*call) for call in apart]
+        made += [op("keep")] + [op(*call) for call in after]
+    return made
+
+
+def some_setting(g):
+    """A line that sets something, with numbers that have a place and numbers that have none."""
+    number = g.one_of([0, 1, 2, 3, 11, 12, 13, g.draw(40), 65536, 65537, 196609, g.wild()])
+    few = [g.one_of([g.draw(16), g.draw(16), g.wild()]) for _ in range(1 + g.draw(9))]
+    return b"\t".join(str(field).encode() for field in g.one_of([
+        ["header", g.draw(34), g.draw(6)], ["header", 4, number], ["header", number], ["header"] + few,
+        ["table", g.draw(40)], ["table", number], ["table", 12, number], ["table"],
+        ["word", g.draw(12)] + few, ["word", number] + few, ["word", g.draw(12)], ["word"],
+        ["buffer", g.draw(12)], ["buffer", number], ["buffer"], ["keep"], ["fresh"], ["keep", number], ["fresh", 0],
+    ]))
+
+
+def wild_settings(g):
+    """Lines of the runner by chance, among them lines that are not read."""
+    made = [op("table", 12), op("new", 4)]
+    for _ in range(1000):
+        p = g.draw(8)
+        if p < 2:
+            made.append(some_setting(g))
+        elif p == 2:
+            made.append(g.one_of([wild_line(g), b" " + some_setting(g), some_setting(g) + b"\t", some_setting(g).upper()]))
+        else:
+            made += mixed(g, 4, list(range(16)), 1, True)
+    return made
+
+
+# Name, the parts of which its lines are made, whether the last line has its byte 10, and the model that answers. A part begins with what
+# the one before it left.
 FILES = [
-    ("vectors_small", [lambda g: small(g, 1, 400), lambda g: small(g, 3, 900), width8, lambda g: small(g, 2, 600)], False),
-    ("vectors_large", [width31, width32, width32_reversed], True),
-    ("vectors_wild", [new_in_the_middle, wild, no_end], False),
+    ("vectors_small", [lambda g: small(g, 1, 400), lambda g: small(g, 3, 900), width8, lambda g: small(g, 2, 600)], False, lines.run),
+    ("vectors_large", [width31, width32, width32_reversed], True, lines.run),
+    ("vectors_wild", [new_in_the_middle, wild, no_end], False, lines.run),
+    ("raw", [edges, damaged, wild_settings], False, raw.run),
 ]
 
 
-def made_by(seed):
-    """Of each file, for a seed: its name, its lines, and what ends the last of them."""
+def made_by(seed, wanted=lambda model: True):
+    """Of each file whose model is wanted, for a seed: its name, its lines, what ends the last of them, and the model that answers."""
     place = 0
-    for name, parts, ended in FILES:
-        made = []
-        for make in parts:
-            made += make(Dice(seed * 1000 + place))
-            place += 1
-        yield name, made, b"\n" if ended else b""
+    for name, parts, ended, model in FILES:
+        if wanted(model):
+            made = []
+            for i, make in enumerate(parts):
+                made += make(Dice(seed * 1000 + place + i))
+            yield name, made, b"\n" if ended else b"", model
+        place += len(parts)
 
 
-def main(seed, outdir):
-    os.makedirs(outdir, exist_ok=True)
-    total = 0
-    for name, made, end in made_by(seed):
+def contents(seed):
+    """Each file's path, below the folder of the crates, and its bytes."""
+    for name, made, end, model in made_by(seed):
         data = b"\n".join(made) + end
-        out = lines.run(data)
-        total += len(made)
-        for kind, content in ((".stdin", data), (".stdout", out)):
-            with open(os.path.join(outdir, name + kind), "wb") as f:
-                f.write(content)
-        print(f"{name}\t{len(data)} bytes in\t{len(out)} bytes out")
-    print(f"{total} lines in all")
+        yield os.path.join(name, "stdin"), data
+        yield os.path.join(name, "stdout"), model(data)
+
+
+def write(folder, seed):
+    for path, content in contents(seed):
+        os.makedirs(os.path.dirname(os.path.join(folder, path)), exist_ok=True)
+        with open(os.path.join(folder, path), "wb") as f:
+            f.write(content)
+        print(f"{path}\t{len(content)} bytes\t{len(lines.split_lines(content))} lines")
+
+
+def compare(folder, seed):
+    """How many files differ from what the model makes."""
+    differing = 0
+    for path, content in contents(seed):
+        with open(os.path.join(folder, path), "rb") as f:
+            same = f.read() == content
+        print(f"{path}\t{'same' if same else 'DIFFERS'}")
+        differing += not same
+    return differing
 
 
 if __name__ == "__main__":
-    main(int(sys.argv[1]), sys.argv[2])
+    args = sys.argv[1:]
+    if args == ["compare"]:
+        sys.exit(min(compare(CRATES, 1), 1))
+    write(args[0] if args else CRATES, int(args[1]) if len(args) > 1 else 1)

@@ -46,7 +46,7 @@ fn listed(reply: Reply) -> Ran
     }
 }
 
-fn run(call: Call, header: Header, table: &mut [u32], words: &mut [u32]) -> Ran
+pub fn run(call: Call, header: Header, table: &mut [u32], words: &mut [u32]) -> Ran
     ensures { λ r. ⌜ Runs call (after call header (now (table .entry)) (now (words .entry))) r (now (table .exit)) (now (words .exit)) ⌝ }
 {
     match call {

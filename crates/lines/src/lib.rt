@@ -1,11 +1,12 @@
 // The line language of the bench: reading a line, and writing the reply to it.
 // Document 01, "The line program".
 
-mod answer;
+// A call run, a line read and a reply said are for crate `raw` too.
+pub mod answer;
 mod gather;
-mod parse;
+pub mod parse;
 mod put;
-mod reply;
+pub mod reply;
 mod serve;
 mod session;
 

@@ -35,7 +35,7 @@ impl Word {
 }
 
 // A word is found by the line's first four bytes, as one number: one comparison for each word, and no loop.
-pub(crate) fn parse(line: &[u8]) -> Line
+pub fn parse(line: &[u8]) -> Line
     ensures { λ r. ⌜ r ≡ parse (now (line .entry)) ⌝ }
 {
     if line.len() < 4 {
@@ -122,7 +122,7 @@ fn alone_after(b: u8, call: Call, rest: &[u8]) -> Line
 }
 
 // "A number is 1 to 10 digits, no leading zero but for 0 itself, at most 4,294,967,295."
-fn number(digits: &[u8]) -> Number
+pub fn number(digits: &[u8]) -> Number
     ensures { λ r. ⌜ r ≡ asNumber (number (now (digits .entry))) ⌝ }
 {
     let n = digits.len();

@@ -9,7 +9,7 @@ ghost use Rattle.pretree.specs.Answer.{numberOf, keyOf};
 ghost use Rattle.lines.specs.Line.{asNumber};
 ghost use Rattle.lines.specs.Render.{saidOf, notRead};
 
-pub(crate) fn said(reply: Reply) -> Said
+pub fn said(reply: Reply) -> Said
     ensures { λ r. ⌜ r ≡ saidOf reply ⌝ }
 {
     let answer = reply.answer;
@@ -22,7 +22,7 @@ pub(crate) fn said(reply: Reply) -> Said
 }
 
 // Answer 9, "program only: line not read", is a refusal: "counts 0".
-pub(crate) fn not_read() -> Said
+pub fn not_read() -> Said
     ensures { λ r. ⌜ r ≡ notRead ⌝ }
 {
     Said {

@@ -1,0 +1,8 @@
+-- What is kept between two bytes of input fits into the arrays of `main`.
+use Prim.Native.Nat.{_≤_}
+use Rattle.raw.specs.declared.State.{State}
+
+pub record Fits (s : State) : Type 0 where
+  pub table : s .size ≤ 196608
+  pub buffer : s .room ≤ 65536
+  pub line : s .held ≤ 257

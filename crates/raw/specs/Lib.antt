@@ -1,0 +1,3 @@
+-- What is kept between two bytes of input, and what a call does to it.
+pub mod Fits
+pub mod Asked

@@ -1,0 +1,204 @@
+// A runner for raw tables: a header, a table and a buffer of any words are set by lines on standard input, and any call is run on them.
+// For each call it writes the reply as the line program does, the header that is handed back, and each word that the call changed.
+// README.md, "A raw table", has its lines.
+
+mod ask;
+mod read;
+mod set;
+mod tell;
+
+use libc::STDIN_FILENO;
+use lines::Line;
+use pretree::Header;
+use read::Word;
+use read::tab_from;
+use read::word_of;
+ghost use Prim.Native.Nat.{_≤_};
+ghost use Rattle.raw.specs.Fits.{Fits};
+
+// The room for a table, one row more than the largest capacity; for a buffer, one word more; and for a line of 256 bytes, one byte more,
+// which says that it is too long.
+type Table = [u32; 196608];
+
+type Buffer = [u32; 65536];
+
+type Bytes = [u8; 257];
+
+// What is kept between two bytes of input. The words of the table and of the line stand beside it.
+pub struct State {
+    pub header: Header,
+    // the words of the table, and of the buffer
+    pub size: usize,
+    pub room: usize,
+    // whether the next call goes on with what a call leaves
+    pub keep: bool,
+    // the lines that have ended, and how many bytes are held of the one that has not
+    pub lines: u64,
+    pub held: usize,
+}
+
+// A proved loop has to end, and nothing says that the input does. So the loop counts its turns down, from a number that no run uses up.
+fn main() {
+    let mut table = [0u32; 196608];
+    let mut left = [0u32; 196608];
+    let mut list = [0u32; 65536];
+    let mut line = [0u8; 257];
+    let mut input = io::large_buffer();
+    let mut state = start();
+    let mut turns: u64 = 140737488355328;
+    while 0 < turns {
+        let n = next_piece(&mut input, state.held);
+        if n == 0 {
+            return;
+        }
+        state = heard(
+            state,
+            &input,
+            n,
+            &mut line,
+            &mut table,
+            &mut left,
+            &mut list,
+        );
+        turns -= 1;
+    }
+}
+
+// It starts as the line program does: "Table of 4,096 rows, all zeros, and a `list` buffer of 4,096 words. Header at the start: W 0, count 0."
+fn start() -> State
+    ensures { λ r. ⌜ Fits r ⌝ }
+{
+    State {
+        header: Header::fresh(0),
+        size: 12288,
+        room: 4096,
+        keep: true,
+        lines: 0,
+        held: 0,
+    }
+}
+
+// The next bytes of the input, and none at its end. There a line that has not ended is ended by a byte 10.
+fn next_piece(input: &mut [u8; 65536], held: usize) -> usize
+    ensures { λ r. ⌜ r ≤ 65536 ⌝ }
+{
+    let got = libc::read(STDIN_FILENO, input);
+    let n = io::count(got, input);
+    if 0 < n {
+        return n;
+    }
+    if held == 0 {
+        return 0;
+    }
+    input[0] = b'\n';
+    1
+}
+
+// The first n bytes of the input.
+fn heard(
+    before: State,
+    input: &[u8; 65536],
+    n: usize,
+    line: &mut Bytes,
+    table: &mut Table,
+    left: &mut Table,
+    list: &mut Buffer,
+) -> State
+    requires { ⌜ (Fits before) × (n ≤ 65536) ⌝ }
+    ensures { λ r. ⌜ Fits r ⌝ }
+{
+    let mut state = before;
+    let mut i = 0;
+    while i < n {
+        state = one_byte(state, input[i], line, table, left, list);
+        i += 1;
+    }
+    state
+}
+
+fn one_byte(
+    state: State,
+    byte: u8,
+    line: &mut Bytes,
+    table: &mut Table,
+    left: &mut Table,
+    list: &mut Buffer,
+) -> State
+    requires { ⌜ Fits state ⌝ }
+    ensures { λ r. ⌜ Fits r ⌝ }
+{
+    let n = state.held;
+    if byte == b'\n' {
+        let whole = &line[..];
+        return one_line(state.ended(), &whole[0..n], table, left, list);
+    }
+    if n < 257 {
+        line[n] = byte;
+        return state.holding(n + 1);
+    }
+    state
+}
+
+impl State {
+    fn ended(mut self) -> Self
+        requires { ⌜ Fits self ⌝ }
+        ensures { λ r. ⌜ Fits r ⌝ }
+    {
+        self.held = 0;
+        self.lines = std::num::wrapping_add_u64(self.lines, 1);
+        self
+    }
+
+    fn holding(mut self, held: usize) -> Self
+        requires { ⌜ (Fits self) × (held ≤ 257) ⌝ }
+        ensures { λ r. ⌜ Fits r ⌝ }
+    {
+        self.held = held;
+        self
+    }
+}
+
+// An empty line, and one that begins with `#`, says nothing.
+fn one_line(
+    state: State,
+    line: &[u8],
+    table: &mut Table,
+    left: &mut Table,
+    list: &mut Buffer,
+) -> State
+    requires { ⌜ Fits state ⌝ }
+    ensures { λ r. ⌜ Fits r ⌝ }
+{
+    if line.len() == 0 {
+        return state;
+    }
+    if line[0] == b'#' {
+        return state;
+    }
+    if 256 < line.len() {
+        return tell::unread(state);
+    }
+    let end = tab_from(line, 0);
+    let word = word_of(&line[0..end]);
+    match word {
+        Word::Other => called(state, line, table, left, list),
+        _ => set::by_line(state, word, &line[end..], table),
+    }
+}
+
+fn called(
+    state: State,
+    line: &[u8],
+    table: &mut Table,
+    left: &mut Table,
+    list: &mut Buffer,
+) -> State
+    requires { ⌜ Fits state ⌝ }
+    ensures { λ r. ⌜ Fits r ⌝ }
+{
+    let read = lines::parse::parse(line);
+    match read {
+        Line::Read(call) => ask::on_set(state, call, table, left, list),
+        Line::Unread => tell::unread(state),
+    }
+}
