@@ -13,7 +13,7 @@ ghost use mathlib.Core.Path.{_≡_};
 ghost use lib.ListN.{length};
 ghost use Rattle.raw.specs.Fits.{Fits};
 
-// "9: program only: line not read"; nothing is changed.
+// Answer 9, "program only: line not read"; nothing is changed.
 pub(crate) fn unread(state: State) -> State
     requires { ⌜ Fits state ⌝ }
     ensures { λ r. ⌜ r ≡ state ⌝ }
