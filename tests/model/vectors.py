@@ -293,9 +293,11 @@ def wild_settings(g):
 # Name, the parts of which its lines are made, whether the last line has its byte 10, and the model that answers. A part begins with what
 # the one before it left.
 FILES = [
-    ("vectors_small", [lambda g: small(g, 1, 400), lambda g: small(g, 3, 900), width8, lambda g: small(g, 2, 600)], False, lines.run),
-    ("vectors_large", [width31, width32, width32_reversed], True, lines.run),
-    ("vectors_wild", [new_in_the_middle, wild, no_end], False, lines.run),
+    ("vectors", [
+        lambda g: small(g, 1, 400), lambda g: small(g, 3, 900), width8, lambda g: small(g, 2, 600),
+        width31, width32, width32_reversed,
+        new_in_the_middle, wild, no_end,
+    ], False, lines.run),
     ("raw", [edges, damaged, wild_settings], False, raw.run),
 ]
 
