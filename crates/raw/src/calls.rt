@@ -1,4 +1,4 @@
-// A call on what was set. It runs on a copy of the table, so that each word it changed can be told.
+// Running a call on what was set. The call works on a copy of the table, so that every word it changed can be reported.
 
 use crate::Buffer;
 use crate::State;
@@ -13,9 +13,9 @@ ghost use lib.ListN.{length, take, replicate};
 ghost use Rattle.pretree.specs.Call.{after};
 ghost use Rattle.lines.specs.Answering.{Runs};
 ghost use Rattle.raw.specs.Fits.{Fits};
-ghost use Rattle.raw.specs.Outcome.{outcome, SetAfter};
+ghost use Rattle.raw.specs.Outcome.{outcome, withHeader, SetAfter};
 
-// The words of the buffer before each call: 2863311530, every second bit, a word that a listing seldom has.
+// Every word of the buffer before each call. A listed word that happens to be the same is not reported as changed.
 pub(crate) const BLANK: u32 = 2863311530;
 
 pub(crate) fn run(
@@ -37,7 +37,7 @@ pub(crate) fn run(
     state
 }
 
-// Lends as many words as were set.
+// The parts of the arrays that were set. Separate because the checker takes a part of a slice, but not of an array behind a reference.
 fn run_on_prefixes(
     call: Call,
     state: State,
@@ -47,7 +47,8 @@ fn run_on_prefixes(
 ) -> Ran
     requires { ⌜ (state .size ≤ length (now table)) × (state .size ≤ length (now copy)) ⌝ }
     requires { ⌜ state .room ≤ length (now buffer) ⌝ }
-    ensures { λ r. ⌜ Runs call (outcome call state (now (table .entry))) r (take (state .size) (now (copy .exit))) (take (state .room) (now (buffer .exit))) ⌝ }
+    ensures { λ r. ⌜ Runs call (outcome call state (now (table .entry)))
+        r (take (state .size) (now (copy .exit))) (take (state .room) (now (buffer .exit))) ⌝ }
 {
     let n = state.size;
     let m = state.room;
@@ -89,7 +90,7 @@ impl State {
     fn with_header_of(mut self, ran: Ran) -> Self
         requires { ⌜ Fits self ⌝ }
         ensures { λ r. ⌜ Fits r ⌝ }
-        ensures { λ r. ⌜ r .header ≡ ran .reply .header ⌝ }
+        ensures { λ r. ⌜ r ≡ withHeader self (ran .reply .header) ⌝ }
     {
         let reply = ran.reply;
         let header = reply.header;
@@ -98,7 +99,7 @@ impl State {
     }
 }
 
-// What is replied and copy is what the definitions say of this call on what was set.
+// The reply, the copy and the buffer are exactly what `after` says of this call on this header and table.
 fn run_on_copy(
     call: Call,
     header: Header,

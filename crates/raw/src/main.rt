@@ -1,6 +1,5 @@
-// A runner for raw tables: a header, a table and a buffer of any words are set by lines on standard input, and any call is run on them.
-// For each call it writes the reply as the line program does, the header that is handed back, and each word that the call changed.
-// README.md, "A raw table", has its lines.
+// A runner for raw tables. Lines on standard input set any header, table and buffer length, and make calls on them. For each call it writes
+// the reply line, the header that was handed back, and every word that the call changed. README.md, "A raw table", lists the lines.
 
 mod calls;
 mod parse;
@@ -16,23 +15,24 @@ use pretree::Header;
 ghost use Prim.Native.Nat.{_≤_};
 ghost use Rattle.raw.specs.Fits.{Fits};
 
-// The room for a table, one row more than the largest capacity; for a buffer, one word more; and for a line of 256 bytes, one byte more,
-// which says that it is too long.
+// One row more than the largest capacity.
 type Table = [u32; 196608];
 
+// One word more than the largest capacity.
 type Buffer = [u32; 65536];
 
+// The longest line, 256 bytes, and one byte that shows a line to be too long.
 type Bytes = [u8; 257];
 
-// What is kept between two bytes of input. The words of the table and of the line stand beside it.
+// What the program remembers between two bytes of input, beside the arrays of `main`.
 pub struct State {
     pub header: Header,
-    // the words of the table, and of the buffer
+    // how many words the table has, and how many the buffer
     pub size: usize,
     pub room: usize,
-    // whether the next call goes on with what a call leaves
+    // whether the next call starts from what a call left
     pub keep: bool,
-    // the lines that have ended, and how many bytes are held of the one that has not
+    // how many lines have ended, and how many bytes of the current line are held
     pub lines: u64,
     pub held: usize,
 }
@@ -64,7 +64,7 @@ fn main() {
     }
 }
 
-// It starts as the line program does: "Table of 4,096 rows, all zeros, and a `buffer` buffer of 4,096 words. Header at the start: W 0, count 0."
+// It starts as the line program does: "Table of 4,096 rows, all zeros, and a `list` buffer of 4,096 words. Header at the start: W 0, count 0."
 fn start() -> State
     ensures { λ r. ⌜ Fits r ⌝ }
 {
@@ -78,7 +78,7 @@ fn start() -> State
     }
 }
 
-// The next bytes of the input, and none at its end. There a line that has not ended is ended by a byte 10.
+// Reads the next bytes; 0 at the end of input. "or at the end of input if bytes are left": a byte 10 is added there, which ends their line.
 fn read_input(input: &mut [u8; 65536], held: usize) -> usize
     ensures { λ r. ⌜ r ≤ 65536 ⌝ }
 {
@@ -94,7 +94,7 @@ fn read_input(input: &mut [u8; 65536], held: usize) -> usize
     1
 }
 
-// The first n bytes of the input.
+// Takes in the first n bytes of `input`.
 fn take_bytes(
     before: State,
     input: &[u8; 65536],
@@ -129,6 +129,7 @@ fn take_byte(
 {
     let n = state.held;
     if byte == b'\n' {
+        // the checker takes a part of a slice, but not of an array behind a reference
         let whole = &line[..];
         return run_line(state.with_line_ended(), &whole[0..n], table, copy, buffer);
     }
@@ -158,7 +159,7 @@ impl State {
     }
 }
 
-// An empty line, and one that begins with `#`, says nothing.
+// Empty lines and lines that begin with `#` do nothing.
 fn run_line(
     state: State,
     line: &[u8],

@@ -1,10 +1,10 @@
-// Reading a line that sets something: its word, and the numbers behind it, each behind one tab.
+// Parsing a line that sets something: a word, then numbers, each after one tab.
 
 use lines::Number;
 ghost use Prim.Native.Nat.{_≤_};
 ghost use lib.ListN.{length};
 
-// The words that set something. A line with another word is a call, or is not read.
+// What a line sets. `Other`: it is a call, or is not read.
 pub enum Setting {
     Header,
     Table,
@@ -51,7 +51,7 @@ fn equal(a: &[u8], b: &[u8]) -> bool {
     true
 }
 
-// The place of the first tab from `from` on, or the end of the line.
+// The place of the first tab at `from` or later, or the end of the line.
 pub(crate) fn find_tab(line: &[u8], from: usize) -> usize
     requires { ⌜ from ≤ length (now line) ⌝ }
     ensures { λ r. ⌜ (from ≤ r) × (r ≤ length (now (line .entry))) ⌝ }
@@ -66,7 +66,7 @@ pub(crate) fn find_tab(line: &[u8], from: usize) -> usize
     i
 }
 
-// The numbers of a line: how many, and whether all of them were read.
+// How many numbers were read, and whether the whole line was.
 pub struct Numbers {
     pub count: usize,
     pub read: bool,

@@ -1,4 +1,4 @@
-// Writing to standard output: a reply line, the header, and a line for each word that changed.
+// What is written to standard output: a reply line, the header, and a line for each word that changed.
 
 use crate::State;
 use crate::calls::BLANK;

@@ -1,4 +1,4 @@
-// The lines that set something. A line with another number of numbers, or with one that has no place, is not read.
+// The lines that set something. A line with too few or too many numbers, or with a number that is out of range, is not read.
 
 use crate::State;
 use crate::Table;
@@ -23,6 +23,7 @@ pub(crate) fn apply_line(state: State, word: Setting, rest: &[u8], table: &mut T
     apply_numbers(state, word, found, &values, table)
 }
 
+// Separate, as `clear_words` and `write_words` are, because the checker takes a part of a slice, but not of an array behind a reference.
 fn apply_numbers(
     state: State,
     word: Setting,
@@ -56,7 +57,7 @@ fn apply(state: State, word: Setting, values: &[u32], table: &mut Table) -> Stat
     }
 }
 
-// header W count
+// `header` W count
 fn set_header(mut state: State, values: &[u32]) -> State
     requires { ⌜ Fits state ⌝ }
     ensures { λ r. ⌜ Fits r ⌝ }
@@ -72,7 +73,7 @@ fn set_header(mut state: State, values: &[u32]) -> State
     state
 }
 
-// table n: n words, all of them 0
+// `table` n: n words, all 0
 fn set_table(mut state: State, values: &[u32], table: &mut Table) -> State
     requires { ⌜ Fits state ⌝ }
     ensures { λ r. ⌜ Fits r ⌝ }
@@ -95,7 +96,7 @@ fn clear_words(table: &mut [u32], n: usize)
     fill_words(&mut table[0..n], 0);
 }
 
-// word i v v ..: the words of the table from word i on
+// `word` i v v ..: the table's words from word i on
 fn set_words(state: State, values: &[u32], table: &mut Table) -> State
     requires { ⌜ Fits state ⌝ }
     ensures { λ r. ⌜ Fits r ⌝ }
@@ -121,7 +122,7 @@ fn write_words(table: &mut [u32], from: usize, words: &[u32])
     copy_words(words, &mut table[from..end]);
 }
 
-// buffer n: what `list` is lent has n words
+// `buffer` n: a buffer of n words
 fn set_buffer(mut state: State, values: &[u32]) -> State
     requires { ⌜ Fits state ⌝ }
     ensures { λ r. ⌜ Fits r ⌝ }
@@ -137,7 +138,7 @@ fn set_buffer(mut state: State, values: &[u32]) -> State
     state
 }
 
-// keep, fresh
+// `keep`, `fresh`
 fn set_keep(mut state: State, keep: bool, values: &[u32]) -> State
     requires { ⌜ Fits state ⌝ }
     ensures { λ r. ⌜ Fits r ⌝ }
@@ -149,6 +150,7 @@ fn set_keep(mut state: State, keep: bool, values: &[u32]) -> State
     state
 }
 
+// Separate because the checker then needs no proof that the cast fits.
 fn wide(n: u32) -> usize
     ensures { λ r. ⌜ r ≡ n ⌝ }
 {

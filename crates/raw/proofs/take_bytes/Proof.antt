@@ -1,4 +1,4 @@
--- After each byte what is kept fits.
+-- The state fits after each byte.
 use Prim.Native.Nat.{_-_, _≤_}
 use borrow.Author.Needs.{needs}
 use Rattle.raw.specs.Fits.{Fits}

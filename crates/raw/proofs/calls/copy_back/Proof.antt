@@ -1,4 +1,4 @@
--- The words below n are those of the copy.
+-- The first n words are those of the copy.
 use borrow.Author.Needs.{needs}
 use Rattle.raw.proofs.Lending.{first-words}
 use Rattle.raw.proofs.calls.copy_back.Statement.{statement}

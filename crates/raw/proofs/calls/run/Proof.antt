@@ -1,7 +1,8 @@
--- What the call left is kept, or nothing is.
+-- `keep` and `fresh` are the two branches.
 use mathlib.Core.Path.{refl, ap, _∙_}
 use borrow.Author.Needs.{needs}
 use Rattle.pretree.specs.declared.Reply.{Reply}
+use Rattle.raw.specs.Outcome.{withHeader}
 use Rattle.raw.proofs.calls.run.Statement.{statement}
 use Rattle.raw.proofs.calls.run.Tie as tie
 
@@ -11,7 +12,7 @@ returns c =
     let on = c .before .before .before .before .before .if1 .taken in (
       c .with-header-of .ensures .0,
       record {
-        kept = λ _. (c .with-header-of .ensures .1 ∙ ap (λ (r : Reply). r .header) (ran .reply), c .before .copy-back .ensures ∙ ran .table);
+        kept = λ _. (c .with-header-of .ensures .1 ∙ ap (λ (reply : Reply). withHeader (c .before .before .before .before .before .before .before .before .before .before .before .args .state) (reply .header)) (ran .reply), c .before .copy-back .ensures ∙ ran .table);
         untouched = λ off. (cc, cc);
       },
     )

@@ -1,4 +1,4 @@
--- What is lent is the first words of each.
+-- The call runs on the first words of each array.
 use borrow.Author.Needs.{needs}
 use Rattle.raw.proofs.Lending.{run-on-first}
 use Rattle.raw.proofs.calls.run_on_prefixes.Statement.{statement}
