@@ -1,5 +1,4 @@
--- Loops that fill a list from the front: a copy of another list, and one word again and again. `fill-more` (borrow.Author.Fill) is a turn of
--- the second.
+-- Laws of two loops that write a list from the front: one copies another list, one writes the same word each time.
 use Prim.Native.Nat.{ℕ, zero, suc, _+_, _<_, _≤_}
 use mathlib.Core.Path.{_≡_, refl, ap}
 use mathlib.Core.List.{List, [], _∷_, _++_, append-nil}
@@ -15,7 +14,7 @@ copied-suc zero (x ∷ s) (y ∷ d) in-s in-d = refl
 copied-suc (suc n) (x ∷ s) (y ∷ d) in-s in-d =
     ap (λ (t : List ℕ). x ∷ t) (copied-suc n s d (le-of-suc-le-suc in-s) (le-of-suc-le-suc in-d))
 
--- a turn: one more word of s is copied to d
+-- one turn copies one more word of s to d
 pub copied-more : (n : ℕ) (s d : List ℕ) → n < length s → n < length d
     → set (take n s ++ drop n d) n (getD s n 0) ≡ take (n + 1) s ++ drop (n + 1) d
 copied-more n s d in-s in-d = rw add-one (copied-suc n s d in-s in-d)

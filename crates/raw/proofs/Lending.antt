@@ -1,4 +1,4 @@
--- The first words of a table or a buffer are lent, and come back before the words that were not.
+-- A call on the first words of a table and a buffer: its outcome, said of the whole arrays.
 use Prim.Native.Nat.{ℕ, _-_, _≤_}
 use mathlib.Core.Path.{_≡_, ap, _∙_}
 use mathlib.Core.List.{List, _++_}

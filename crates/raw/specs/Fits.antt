@@ -1,4 +1,4 @@
--- What is kept between two bytes of input fits into the arrays of `main`.
+-- The lengths that the program remembers fit into the arrays of `main`.
 use Prim.Native.Nat.{_≤_}
 use Rattle.raw.specs.declared.State.{State}
 

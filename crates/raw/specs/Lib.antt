@@ -1,3 +1,3 @@
--- What is kept between two bytes of input, and what a call does to it.
+-- The state of the runner, and what a call does to it.
 pub mod Fits
-pub mod Asked
+pub mod Outcome

@@ -1,38 +1,38 @@
-// A runner for raw tables: a header, a table and a buffer of any words are set by lines on standard input, and any call is run on them.
-// For each call it writes the reply as the line program does, the header that is handed back, and each word that the call changed.
-// README.md, "A raw table", has its lines.
+// A runner for raw tables. Lines on standard input set any header, table and buffer length, and make calls on them. For each call it writes
+// the reply line, the header that was handed back, and every word that the call changed. README.md, "A raw table", lists the lines.
 
-mod ask;
-mod read;
-mod set;
-mod tell;
+mod calls;
+mod parse;
+mod report;
+mod settings;
 
 use libc::STDIN_FILENO;
 use lines::Line;
+use parse::Setting;
+use parse::find_tab;
+use parse::setting_of;
 use pretree::Header;
-use read::Word;
-use read::tab_from;
-use read::word_of;
 ghost use Prim.Native.Nat.{_≤_};
 ghost use Rattle.raw.specs.Fits.{Fits};
 
-// The room for a table, one row more than the largest capacity; for a buffer, one word more; and for a line of 256 bytes, one byte more,
-// which says that it is too long.
+// One row more than the largest capacity.
 type Table = [u32; 196608];
 
+// One word more than the largest capacity.
 type Buffer = [u32; 65536];
 
+// The longest line, 256 bytes, and one byte that shows a line to be too long.
 type Bytes = [u8; 257];
 
-// What is kept between two bytes of input. The words of the table and of the line stand beside it.
+// What the program remembers between two bytes of input, beside the arrays of `main`.
 pub struct State {
     pub header: Header,
-    // the words of the table, and of the buffer
+    // how many words the table has, and how many the buffer
     pub size: usize,
     pub room: usize,
-    // whether the next call goes on with what a call leaves
+    // whether the next call starts from what a call left
     pub keep: bool,
-    // the lines that have ended, and how many bytes are held of the one that has not
+    // how many lines have ended, and how many bytes of the current line are held
     pub lines: u64,
     pub held: usize,
 }
@@ -40,25 +40,25 @@ pub struct State {
 // A proved loop has to end, and nothing says that the input does. So the loop counts its turns down, from a number that no run uses up.
 fn main() {
     let mut table = [0u32; 196608];
-    let mut left = [0u32; 196608];
-    let mut list = [0u32; 65536];
+    let mut copy = [0u32; 196608];
+    let mut buffer = [0u32; 65536];
     let mut line = [0u8; 257];
     let mut input = io::large_buffer();
     let mut state = start();
     let mut turns: u64 = 140737488355328;
     while 0 < turns {
-        let n = next_piece(&mut input, state.held);
+        let n = read_input(&mut input, state.held);
         if n == 0 {
             return;
         }
-        state = heard(
+        state = take_bytes(
             state,
             &input,
             n,
             &mut line,
             &mut table,
-            &mut left,
-            &mut list,
+            &mut copy,
+            &mut buffer,
         );
         turns -= 1;
     }
@@ -78,8 +78,8 @@ fn start() -> State
     }
 }
 
-// The next bytes of the input, and none at its end. There a line that has not ended is ended by a byte 10.
-fn next_piece(input: &mut [u8; 65536], held: usize) -> usize
+// Reads the next bytes; 0 at the end of input. "or at the end of input if bytes are left": a byte 10 is added there, which ends their line.
+fn read_input(input: &mut [u8; 65536], held: usize) -> usize
     ensures { λ r. ⌜ r ≤ 65536 ⌝ }
 {
     let got = libc::read(STDIN_FILENO, input);
@@ -94,15 +94,15 @@ fn next_piece(input: &mut [u8; 65536], held: usize) -> usize
     1
 }
 
-// The first n bytes of the input.
-fn heard(
+// Takes in the first n bytes of `input`.
+fn take_bytes(
     before: State,
     input: &[u8; 65536],
     n: usize,
     line: &mut Bytes,
     table: &mut Table,
-    left: &mut Table,
-    list: &mut Buffer,
+    copy: &mut Table,
+    buffer: &mut Buffer,
 ) -> State
     requires { ⌜ (Fits before) × (n ≤ 65536) ⌝ }
     ensures { λ r. ⌜ Fits r ⌝ }
@@ -110,37 +110,38 @@ fn heard(
     let mut state = before;
     let mut i = 0;
     while i < n {
-        state = one_byte(state, input[i], line, table, left, list);
+        state = take_byte(state, input[i], line, table, copy, buffer);
         i += 1;
     }
     state
 }
 
-fn one_byte(
+fn take_byte(
     state: State,
     byte: u8,
     line: &mut Bytes,
     table: &mut Table,
-    left: &mut Table,
-    list: &mut Buffer,
+    copy: &mut Table,
+    buffer: &mut Buffer,
 ) -> State
     requires { ⌜ Fits state ⌝ }
     ensures { λ r. ⌜ Fits r ⌝ }
 {
     let n = state.held;
     if byte == b'\n' {
+        // the checker takes a part of a slice, but not of an array behind a reference
         let whole = &line[..];
-        return one_line(state.ended(), &whole[0..n], table, left, list);
+        return run_line(state.with_line_ended(), &whole[0..n], table, copy, buffer);
     }
     if n < 257 {
         line[n] = byte;
-        return state.holding(n + 1);
+        return state.with_line_len(n + 1);
     }
     state
 }
 
 impl State {
-    fn ended(mut self) -> Self
+    fn with_line_ended(mut self) -> Self
         requires { ⌜ Fits self ⌝ }
         ensures { λ r. ⌜ Fits r ⌝ }
     {
@@ -149,7 +150,7 @@ impl State {
         self
     }
 
-    fn holding(mut self, held: usize) -> Self
+    fn with_line_len(mut self, held: usize) -> Self
         requires { ⌜ (Fits self) × (held ≤ 257) ⌝ }
         ensures { λ r. ⌜ Fits r ⌝ }
     {
@@ -158,13 +159,13 @@ impl State {
     }
 }
 
-// An empty line, and one that begins with `#`, says nothing.
-fn one_line(
+// Empty lines and lines that begin with `#` do nothing.
+fn run_line(
     state: State,
     line: &[u8],
     table: &mut Table,
-    left: &mut Table,
-    list: &mut Buffer,
+    copy: &mut Table,
+    buffer: &mut Buffer,
 ) -> State
     requires { ⌜ Fits state ⌝ }
     ensures { λ r. ⌜ Fits r ⌝ }
@@ -176,29 +177,29 @@ fn one_line(
         return state;
     }
     if 256 < line.len() {
-        return tell::unread(state);
+        return report::unread(state);
     }
-    let end = tab_from(line, 0);
-    let word = word_of(&line[0..end]);
+    let end = find_tab(line, 0);
+    let word = setting_of(&line[0..end]);
     match word {
-        Word::Other => called(state, line, table, left, list),
-        _ => set::by_line(state, word, &line[end..], table),
+        Setting::Other => call_line(state, line, table, copy, buffer),
+        _ => settings::apply_line(state, word, &line[end..], table),
     }
 }
 
-fn called(
+fn call_line(
     state: State,
     line: &[u8],
     table: &mut Table,
-    left: &mut Table,
-    list: &mut Buffer,
+    copy: &mut Table,
+    buffer: &mut Buffer,
 ) -> State
     requires { ⌜ Fits state ⌝ }
     ensures { λ r. ⌜ Fits r ⌝ }
 {
     let read = lines::parse::parse(line);
     match read {
-        Line::Read(call) => ask::on_set(state, call, table, left, list),
-        Line::Unread => tell::unread(state),
+        Line::Read(call) => calls::run(state, call, table, copy, buffer),
+        Line::Unread => report::unread(state),
     }
 }

@@ -1,4 +1,4 @@
--- Between two pieces what is kept fits, and each takes a turn.
+-- The state fits after each piece of input, and each piece takes a turn.
 use borrow.Author.Needs.{needs}
 use Rattle.raw.specs.Fits.{Fits}
 use Rattle.raw.proofs.main.Statement.{statement}

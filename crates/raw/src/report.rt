@@ -1,0 +1,98 @@
+// What is written to standard output: a reply line, the header, and a line for each word that changed.
+
+use crate::State;
+use crate::calls::BLANK;
+use libc::STDOUT_FILENO;
+use lines::Number;
+use lines::Said;
+use lines::reply::not_read;
+use lines::reply::said;
+use pretree::Header;
+use pretree::Reply;
+ghost use mathlib.Core.Path.{_≡_};
+ghost use lib.ListN.{length};
+ghost use Rattle.raw.specs.Fits.{Fits};
+
+// Answer 9, "program only: line not read"; nothing is changed.
+pub(crate) fn unread(state: State) -> State
+    requires { ⌜ Fits state ⌝ }
+    ensures { λ r. ⌜ r ≡ state ⌝ }
+    ensures { λ r. ⌜ Fits r ⌝ }
+{
+    reply_line(state.lines, not_read());
+    state
+}
+
+pub(crate) fn reply(line: u64, reply: Reply) {
+    let after = reply.header;
+    reply_line(line, said(reply));
+    header_line(after);
+}
+
+// "line number from 1, answer number, key or `-`, rows read, moving count, parted by tabs"
+fn reply_line(line: u64, said: Said) {
+    let key = said.key;
+    io::print_decimal(STDOUT_FILENO, line);
+    field(said.answer);
+    key_field(key);
+    field(said.rows);
+    field(said.moved);
+    line_end();
+}
+
+fn header_line(header: Header) {
+    io::write_all(STDOUT_FILENO, b"header");
+    field(header.width);
+    field(header.count);
+    line_end();
+}
+
+// The words of the table that a call changed.
+pub(crate) fn changed_words(before: &[u32], after: &[u32])
+    requires { ⌜ length (now after) ≡ length (now before) ⌝ }
+{
+    let mut i = 0;
+    while i < before.len() {
+        if before[i] != after[i] {
+            word_line(b"word", i, after[i]);
+        }
+        i += 1;
+    }
+}
+
+// The words of the buffer that a call changed.
+pub(crate) fn changed_buffer(buffer: &[u32]) {
+    let mut i = 0;
+    while i < buffer.len() {
+        if buffer[i] != BLANK {
+            word_line(b"key", i, buffer[i]);
+        }
+        i += 1;
+    }
+}
+
+fn word_line(name: &[u8], place: usize, word: u32) {
+    io::write_all(STDOUT_FILENO, name);
+    io::write_all(STDOUT_FILENO, b"\t");
+    io::print_decimal(STDOUT_FILENO, place as u64);
+    field(word);
+    line_end();
+}
+
+fn key_field(key: Number) {
+    match key {
+        Number::Of(k) => field(k),
+        Number::Nothing => {
+            io::write_all(STDOUT_FILENO, b"\t-");
+        }
+    }
+}
+
+fn field(n: u32) {
+    io::write_all(STDOUT_FILENO, b"\t");
+    io::print_decimal(STDOUT_FILENO, n as u64);
+}
+
+fn line_end() {
+    io::write_all(STDOUT_FILENO, b"\n");
+}
