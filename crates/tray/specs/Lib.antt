@@ -1,0 +1,4 @@
+pub mod Seat
+pub mod Standard
+pub mod Tray
+pub mod Verdict
