@@ -1,15 +1,15 @@
 -- What a sample that is counted leaves known: the checks that it passed.
-use Prim.Native.Nat.{ℕ, _≤_, _<_}
+use Prim.Native.Nat.{ℕ, suc, _≤_, _<_, min}
 use mathlib.Core.Path.{_≡_, refl, sym}
-use mathlib.Core.Bool.{Bool, true, false, cond, _||_, true≢false}
+use mathlib.Core.Bool.{Bool, true, false, cond, _&&_, _||_, true≢false}
 use native.Mathlib.Omega.{arith}
 use lib.Dec.{eqb, ltb, leb}
-use borrow.Author.Tests.{leb-false, ltb-false, eqb-false}
+use borrow.Author.Tests.{leb-false, ltb-false, eqb-true, le-leb}
 use Rattle.tray.specs.declared.Seat.{Seat}
 use Rattle.tray.specs.declared.Sample.{Sample}
 use Rattle.tray.specs.declared.Verdict.{Verdict}
 use Rattle.tray.specs.declared.Verdict.the-variants.{WrongWidth, WordTooWide, NoSuchSeat, LowCutoff, Damage}
-use Rattle.tray.specs.Seat.{window, wrong-width, too-wide, low-cutoff, damaged, verdict, isCounted}
+use Rattle.tray.specs.Seat.{top, window, wrong-width, too-wide, low-cutoff, damaged, repeats, runWith, repetitionAlarm, verdict, isCounted}
 
 pub neither : (a b : Bool) → (a || b) ≡ false → (a ≡ false) × (b ≡ false)
 neither true b e = (e, cc)
@@ -24,6 +24,14 @@ unfolding window
 window-small width = by-cases (eqb width 1) refl
   where
     by-cases : (b : Bool) → eqb width 1 ≡ b → window width ≤ 1024
+    by-cases true e = rw e (omega arith)
+    by-cases false e = rw e (omega arith)
+
+pub window-some : (width : ℕ) → 0 < window width
+unfolding window
+window-some width = by-cases (eqb width 1) refl
+  where
+    by-cases : (b : Bool) → eqb width 1 ≡ b → 0 < window width
     by-cases true e = rw e (omega arith)
     by-cases false e = rw e (omega arith)
 
@@ -61,3 +69,22 @@ passed present r s e =
     through false false true true d v e = absurd (true≢false (sym e))
     through false false true false true v e = absurd (true≢false (sym e))
     through false false true false false v e = (refl, refl, refl, refl, refl)
+
+implied : (a b : Bool) → (b ≡ true → a ≡ true) → a ≡ (a || b)
+implied true b h = refl
+implied false true h = h refl
+implied false false h = refl
+
+pub both : (a b : Bool) → a && b ≡ true → (a ≡ true) × (b ≡ true)
+both true b h = (refl, h)
+both false b h = (h, cc)
+
+-- A cutoff of 32 bits is at most the top, so the run alone decides: where a run at its top repeats, it has reached every such cutoff.
+pub by-the-run : (r : Seat) (cutoff word : ℕ) → cutoff ≤ top → leb cutoff (runWith r word) ≡ repetitionAlarm r cutoff word
+unfolding repetitionAlarm runWith
+by-the-run r cutoff word fits =
+    implied (leb cutoff (runWith r word)) (repeats r word && eqb (r .run) top) (λ h.
+    let t = both (repeats r word) (eqb (r .run) top) h in
+    let at-top : r .run ≡ top = eqb-true (r .run) top (t .1) in
+    let reached : cutoff ≤ min (suc (r .run)) top = omega arith in
+    simp (t .0, le-leb cutoff (min (suc (r .run)) top) reached))

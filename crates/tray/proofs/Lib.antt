@@ -1,2 +1,5 @@
 mod Checks
+mod Following
+pub mod Promise
 pub mod Trays
+mod Windows

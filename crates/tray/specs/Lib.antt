@@ -1,4 +1,5 @@
 pub mod Seat
+pub mod Sequence
 pub mod Standard
 pub mod Tray
 pub mod Verdict

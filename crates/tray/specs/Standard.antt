@@ -6,7 +6,7 @@ use mathlib.Core.List.{List, [], _∷_, _++_}
 use lib.Dec.{leb, eqb}
 use lib.ListN.{length, getD, drop}
 
-abbrev allEqual : ℕ → List ℕ → Bool
+abbrev pub allEqual : ℕ → List ℕ → Bool
 allEqual a [] = true
 allEqual a (x ∷ xs) = eqb x a && allEqual a xs
 
