@@ -1,5 +1,6 @@
 mod Checks
 mod Following
 pub mod Promise
+pub mod Tags
 pub mod Trays
 mod Windows

@@ -3,7 +3,7 @@ use Prim.Native.Nat.{ℕ}
 use Rattle.tray.specs.declared.Verdict.{Verdict}
 use Rattle.tray.specs.declared.Verdict.the-variants.{Counted, WrongWidth, WordTooWide, NoSuchSeat, LowCutoff, Damage}
 
-unfoldable pub numberOf : Verdict → ℕ
+abbrev pub numberOf : Verdict → ℕ
 numberOf (Counted repetition proportion) = 0
 numberOf WrongWidth = 1
 numberOf WordTooWide = 3

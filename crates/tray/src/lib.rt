@@ -11,6 +11,7 @@ ghost use Rattle.tray.specs.Seat.{fresh, window, wrong-width, too-wide, 
 ghost use Rattle.tray.specs.Seat.{repeats, runWith, repetitionAlarm, isWindowWord, windowWord, countWith, proportionAlarm};
 ghost use Rattle.tray.specs.Seat.{counted, verdict, after};
 ghost use Rattle.tray.specs.Tray.{Sampled};
+ghost use Rattle.tray.specs.Verdict.{numberOf};
 
 // "a lent table of seat records, one for each chip, with the last word, its run, the proportion window's word, its place and its count"
 pub struct Seat {
@@ -37,6 +38,25 @@ pub enum Verdict {
     NoSuchSeat,
     LowCutoff,
     Damage,
+}
+
+impl Verdict {
+    // The document's answer number.
+    pub fn number(self) -> u32
+        ensures { λ r. ⌜ r ≡ numberOf self ⌝ }
+    {
+        match self {
+            Verdict::Counted {
+                repetition: _,
+                proportion: _,
+            } => 0,
+            Verdict::WrongWidth => 1,
+            Verdict::WordTooWide => 3,
+            Verdict::NoSuchSeat => 13,
+            Verdict::LowCutoff => 14,
+            Verdict::Damage => 4,
+        }
+    }
 }
 
 // A sample for one seat of the tray. Every other record stays, and a refusal changes nothing.

@@ -1,11 +1,8 @@
 -- A sample that is counted is counted once, and any other leaves the record.
-use Prim.Native.Nat.{ℕ, _<_}
+use Prim.Native.Nat.{_<_}
 use mathlib.Core.Path.{_≡_, refl, sym, ap, _∙_}
 use mathlib.Core.Bool.{true, false}
-use mathlib.Core.List.{[], _∷_}
-use mathlib.Core.Logic.{inl, inr}
 use native.Mathlib.Omega.{arith}
-use types.Run.{OneOf}
 use denote.Enum.Declared.{tagOf}
 use borrow.Author.Needs.{needs}
 use lib.Dec.{ltb}
@@ -13,18 +10,12 @@ use Rattle.tray.specs.declared.Verdict.{Verdict}
 use Rattle.tray.specs.declared.Verdict.the-variants.{Counted, WrongWidth, WordTooWide, NoSuchSeat, LowCutoff, Damage}
 use Rattle.tray.specs.Seat.{verdict, isCounted, after}
 use Rattle.tray.proofs.Checks.{Passed, passed, Sound, sound, window-small}
+use Rattle.tray.proofs.Tags.{later}
 use Rattle.tray.proofs.Verdict.{the-type}
 use Rattle.tray.proofs.Seat.after.Statement.{statement}
 use Rattle.tray.proofs.Seat.after.Tie as tie
 
--- the tag of a refusal is not that of a count
-later : (tag : ℕ) → OneOf (1 ∷ 2 ∷ 3 ∷ 4 ∷ 5 ∷ []) tag → 0 < tag
-later tag (inl e) = omega arith
-later tag (inr (inl e)) = omega arith
-later tag (inr (inr (inl e))) = omega arith
-later tag (inr (inr (inr (inl e)))) = omega arith
-later tag (inr (inr (inr (inr e)))) = omega arith
-
+-- a refusal is not counted
 refused : (v : Verdict) → 0 < tagOf the-type v → isCounted v ≡ false
 refused (Counted a b) h = absurd (let none : ⊥ = omega arith in none)
 refused WrongWidth h = refl
