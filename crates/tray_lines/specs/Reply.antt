@@ -1,8 +1,15 @@
--- What a reply line says of a verdict: both alarms are 0 with a refusal.
+-- What a reply line says, and the tray that a line leaves. Both alarms are 0 with a refusal.
+use Prim.Native.Nat.{ℕ}
+use mathlib.Core.List.{List}
 use mathlib.Core.Bool.{false}
 use Rattle.tray.specs.declared.Verdict.{Verdict}
 use Rattle.tray.specs.declared.Verdict.the-variants.{Counted, WrongWidth, WordTooWide, NoSuchSeat, LowCutoff, Damage}
+use Rattle.tray.specs.declared.Seat.{Seat}
+use Rattle.tray.specs.declared.Sample.{Sample}
 use Rattle.tray.specs.Verdict.{numberOf}
+use Rattle.tray.specs.Tray.{replyTo, trayAfter}
+use Rattle.tray_lines.specs.declared.parse.Line.{Line}
+use Rattle.tray_lines.specs.declared.parse.Line.the-variants.{Read, Unread}
 use Rattle.tray_lines.specs.declared.answer.Text.{Text}
 
 abbrev pub textOf : Verdict → Text
@@ -12,3 +19,16 @@ textOf WordTooWide = record { answer = numberOf WordTooWide; repetition = false;
 textOf NoSuchSeat = record { answer = numberOf NoSuchSeat; repetition = false; proportion = false }
 textOf LowCutoff = record { answer = numberOf LowCutoff; repetition = false; proportion = false }
 textOf Damage = record { answer = numberOf Damage; repetition = false; proportion = false }
+
+-- the sample of a line, with the width and the cutoffs of the program's arguments
+abbrev pub sampleOf : Sample → ℕ → Sample
+sampleOf settings word = record { width = settings .width; word = word; repetition = settings .repetition; proportion = settings .proportion }
+
+-- "a line that isn't two numbers [..] is answer 9", and changes nothing
+abbrev pub textOn : List Seat → Line → Sample → Text
+textOn tray (Read seat word) settings = textOf (replyTo tray seat (sampleOf settings word))
+textOn tray Unread settings = record { answer = 9; repetition = false; proportion = false }
+
+abbrev pub trayOn : List Seat → Line → Sample → List Seat
+trayOn tray (Read seat word) settings = trayAfter tray seat (sampleOf settings word)
+trayOn tray Unread settings = tray

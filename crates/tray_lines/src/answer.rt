@@ -7,7 +7,7 @@ use tray::Verdict;
 ghost use mathlib.Core.Path.{_≡_};
 ghost use lib.ListN.{length};
 ghost use Rattle.tray.specs.Tray.{Sampled};
-ghost use Rattle.tray_lines.specs.Reply.{textOf};
+ghost use Rattle.tray_lines.specs.Reply.{textOf, textOn, trayOn};
 
 // What a reply line says behind its line number.
 pub struct Text {
@@ -51,7 +51,7 @@ fn sampled(tray: [Seat; 64], seat: usize, sample: Sample) -> Turn
 // "a line that isn't two numbers [..] is answer 9"
 pub fn answer_line(tray: [Seat; 64], line: Line, settings: Sample) -> Answered
     requires { ⌜ length tray ≡ 64 ⌝ }
-    ensures { λ r. ⌜ length (r .tray) ≡ 64 ⌝ }
+    ensures { λ r. ⌜ (length (r .tray) ≡ 64) × (r .tray ≡ trayOn tray line settings) × (r .text ≡ textOn tray line settings) ⌝ }
 {
     let Line::Read(seat, word) = line else {
         return Answered {

@@ -1,5 +1,5 @@
-// The tray program: `tray_lines W C1 C2`, a tray of 64 seats, all zeros at the start. It reads lines of seat, tab, word, and writes for each its
-// line number, answer number, repetition alarm and proportion alarm, parted by tabs. C1 is the repetition cutoff, C2 the proportion cutoff.
+// The tray program, with the arguments W, C1 and C2: a tray of 64 seats, all zeros at the start. It reads lines of seat, tab, word, and writes for
+// each its line number, answer number, repetition alarm and proportion alarm, parted by tabs. C1 is the repetition cutoff, C2 the proportion cutoff.
 //
 // There is no exit status: at the end, once every write has succeeded, the program writes `ok` to descriptor 3. The script `tray` goes by that.
 
@@ -20,7 +20,7 @@ use put::put_reply;
 use tray::Sample;
 use tray::Seat;
 
-fn main() {
+pub fn run() {
     if os::arg_count() != 4 {
         usage();
         return;
