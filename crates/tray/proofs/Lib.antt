@@ -1,4 +1,5 @@
 mod Checks
+pub mod Examples
 mod Following
 pub mod Promise
 pub mod Tags

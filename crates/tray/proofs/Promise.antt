@@ -1,5 +1,5 @@
 -- The promise of document 02, §6: over any sequence of samples to any seats of a fresh tray, with one width and one pair of cutoffs, each sample's alarms are
--- those of the standard's two procedures on that seat's samples alone. Assumes nothing.
+-- those of the standard's two procedures on that seat's samples alone. A cutoff is a number of 32 bits (`fits`). Assumes nothing.
 use Prim.Native.Nat.{ℕ, _≤_, _<_}
 use mathlib.Core.Path.{_≡_, refl, sym, ap, _∙_}
 use mathlib.Core.Bool.{Bool, true, false, cond, not, _&&_, true≢false}
@@ -12,7 +12,7 @@ use borrow.Author.Tests.{ltb-true, eqb-true, eqb-false, eq-eqb, ne-eqb}
 use Rattle.tray.specs.declared.Seat.{Seat}
 use Rattle.tray.specs.declared.Sample.{Sample}
 use Rattle.tray.specs.declared.Verdict.{Verdict}
-use Rattle.tray.specs.declared.Verdict.the-variants.{Counted, WordTooWide, NoSuchSeat}
+use Rattle.tray.specs.declared.Verdict.the-variants.{Counted, WrongWidth, WordTooWide, NoSuchSeat, LowCutoff}
 use Rattle.tray.specs.Seat.{fresh, top, window, wrong-width, too-wide, low-cutoff, repetitionAlarm, proportionAlarm, counted, verdict, after, isCounted}
 use Rattle.tray.specs.Standard.{repetitionTest, proportionTest}
 use Rattle.tray.specs.Tray.{isPresent, replyTo, trayAfter}
@@ -29,17 +29,17 @@ and-false false = refl
 abbrev isSeat : ℕ → ℕ → Bool
 isSeat size seat = ltb seat size && ltb seat 64
 
-module _ (width repetition proportion : ℕ) (right-width : wrong-width width ≡ false) (right-cutoffs : low-cutoff repetition proportion ≡ false) (fits : repetition ≤ top) where
+module _ (width repetition proportion : ℕ) (fits : repetition ≤ top) where
   abbrev samples : ℕ → List Arrival → List ℕ
   samples = samplesOf width repetition proportion
 
   abbrev sample : Arrival → Sample
   sample = sampleOf width repetition proportion
 
-  -- the tray's records follow their seats' samples
+  -- The tray's records follow their seats' samples. With a width or a cutoff that is refused nothing is counted, and nothing is asked of them.
   record AllFollow (size : ℕ) (before : List Arrival) (tray : List Seat) : Type 0 where
     long : length tray ≡ size
-    each : (seat : ℕ) → isSeat size seat ≡ true → Follows (window width) (samples seat before) (getD tray seat fresh)
+    each : wrong-width width ≡ false → low-cutoff repetition proportion ≡ false → (seat : ℕ) → isSeat size seat ≡ true → Follows (window width) (samples seat before) (getD tray seat fresh)
 
   samples-snoc : (seat : ℕ) (before : List Arrival) (a : Arrival)
       → samples seat (before ++ a ∷ []) ≡ cond (eqb (a .seat) seat && not (too-wide width (a .word))) (samples seat before ++ a .word ∷ []) (samples seat before)
@@ -63,18 +63,18 @@ module _ (width repetition proportion : ℕ) (right-width : wrong-width width �
 
     -- a refusal, with no seat's samples changed
     refused : (t : Verdict) → isCounted t ≡ false → replyTo tray (a .seat) (sample a) ≡ t → standard width repetition proportion size before a ≡ t
-        → ((seat : ℕ) → isSeat size seat ≡ true → samples seat (before ++ a ∷ []) ≡ samples seat before) → Right
+        → (wrong-width width ≡ false → low-cutoff repetition proportion ≡ false → (seat : ℕ) → isSeat size seat ≡ true → samples seat (before ++ a ∷ []) ≡ samples seat before) → Right
     refused t uncounted e e′ kept =
         let stays : trayAfter tray (a .seat) (sample a) ≡ tray = refusal-leaves tray (a .seat) (sample a) (ap isCounted e ∙ uncounted) in
-        record { answers = e ∙ sym e′; leaves = rw stays (record { long = follow .long; each = λ seat is. rw (kept seat is) (follow .each seat is) }) }
+        record { answers = e ∙ sym e′; leaves = rw stays (record { long = follow .long; each = λ wide high seat is. rw (kept wide high seat is) (follow .each wide high seat is) }) }
 
     abbrev r : Seat
     r = getD tray (a .seat) fresh
 
     -- an arrival that is counted
-    module _ (narrow : too-wide width (a .word) ≡ false) (is-seat : isSeat size (a .seat) ≡ true) where
+    module _ (right-width : wrong-width width ≡ false) (narrow : too-wide width (a .word) ≡ false) (is-seat : isSeat size (a .seat) ≡ true) (right-cutoffs : low-cutoff repetition proportion ≡ false) where
       its-record : Follows (window width) (samples (a .seat) before) r
-      its-record = follow .each (a .seat) is-seat
+      its-record = follow .each right-width right-cutoffs (a .seat) is-seat
 
       present : isPresent tray (a .seat) ≡ true
       unfolding isPresent
@@ -98,32 +98,37 @@ module _ (width repetition proportion : ℕ) (right-width : wrong-width width �
               rw (← equal, samples-snoc (a .seat) before a, eq-eqb (a .seat) (a .seat) refl, narrow, getD-set-same tray (a .seat) (counted (window width) r (a .word)) fresh within)
               (follows-on (window width) (window-some width) (samples (a .seat) before) r its-record (a .word))
           by-cases false t =
-              rw (samples-snoc seat before a, t, getD-set-other tray (a .seat) seat (counted (window width) r (a .word)) fresh (λ e. eqb-false (a .seat) seat t (sym e))) (follow .each seat is)
+              rw (samples-snoc seat before a, t, getD-set-other tray (a .seat) seat (counted (window width) r (a .word)) fresh (λ e. eqb-false (a .seat) seat t (sym e))) (follow .each right-width right-cutoffs seat is)
 
       right : Right
       unfolding standard
       right = record {
         answers = answer ∙ rw (
+          right-width,
           narrow,
           is-seat,
+          right-cutoffs,
           repetition-is (window width) (window-some width) (samples (a .seat) before) r its-record (a .word) repetition fits,
           proportion-is (window width) (window-some width) (samples (a .seat) before) r its-record (a .word) proportion,
         );
-        leaves = record { long = length-stays tray (a .seat) (sample a) ∙ follow .long; each = λ seat is. rw left (still seat is) };
+        leaves = record { long = length-stays tray (a .seat) (sample a) ∙ follow .long; each = λ wide high seat is. rw left (still seat is) };
       }
 
     one : Right
     unfolding replyTo verdict standard isPresent
-    one = by-cases (too-wide width (a .word)) (isSeat size (a .seat)) refl refl
+    one = by-cases (wrong-width width) (too-wide width (a .word)) (isSeat size (a .seat)) (low-cutoff repetition proportion) refl refl refl refl
       where
-        by-cases : (t u : Bool) → too-wide width (a .word) ≡ t → isSeat size (a .seat) ≡ u → Right
-        by-cases true u t e =
-            refused WordTooWide refl (rw (right-width, t)) (rw t) (λ seat is. rw (samples-snoc seat before a, t, and-false (eqb (a .seat) seat)))
-        by-cases false false t e =
-            refused NoSuchSeat refl (rw (right-width, t, follow .long, e)) (rw (t, e)) (λ seat is.
-            let differs : eqb (a .seat) seat ≡ false = ne-eqb (a .seat) seat (λ q. true≢false (sym is ∙ ap (isSeat size) (sym q) ∙ e)) in
+        by-cases : (w t u l : Bool) → wrong-width width ≡ w → too-wide width (a .word) ≡ t → isSeat size (a .seat) ≡ u → low-cutoff repetition proportion ≡ l → Right
+        by-cases true t u l w e is low = refused WrongWidth refl (rw w) (rw w) (λ wide. absurd (true≢false (sym w ∙ wide)))
+        by-cases false true u l w e is low =
+            refused WordTooWide refl (rw (w, e)) (rw (w, e)) (λ wide high seat there. rw (samples-snoc seat before a, e, and-false (eqb (a .seat) seat)))
+        by-cases false false false l w e is low =
+            refused NoSuchSeat refl (rw (w, e, follow .long, is)) (rw (w, e, is)) (λ wide high seat there.
+            let differs : eqb (a .seat) seat ≡ false = ne-eqb (a .seat) seat (λ q. true≢false (sym there ∙ ap (isSeat size) (sym q) ∙ is)) in
             rw (samples-snoc seat before a, differs))
-        by-cases false true t e = right t e
+        by-cases false false true true w e is low =
+            refused LowCutoff refl (rw (w, e, follow .long, is, low)) (rw (w, e, is, low)) (λ wide high. absurd (true≢false (sym low ∙ high)))
+        by-cases false false true false w e is low = right w e is low
 
   all-right : (size : ℕ) (before : List Arrival) (tray : List Seat) → AllFollow size before tray → (arrivals : List Arrival)
       → replies width repetition proportion tray arrivals ≡ standards width repetition proportion size before arrivals
@@ -140,5 +145,5 @@ module _ (width repetition proportion : ℕ) (right-width : wrong-width width �
   alarms-are-the-standard's size arrivals =
       all-right size [] (replicate size fresh) (record {
         long = length-replicate size fresh;
-        each = λ seat is. rw (getD-replicate size seat fresh fresh (ltb-true seat size (both (ltb seat size) (ltb seat 64) is .0))) (fresh-follows (window width));
+        each = λ wide high seat is. rw (getD-replicate size seat fresh fresh (ltb-true seat size (both (ltb seat size) (ltb seat 64) is .0))) (fresh-follows (window width));
       }) arrivals

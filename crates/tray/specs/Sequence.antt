@@ -8,8 +8,8 @@ use lib.Dec.{ltb, eqb}
 use Rattle.tray.specs.declared.Seat.{Seat}
 use Rattle.tray.specs.declared.Sample.{Sample}
 use Rattle.tray.specs.declared.Verdict.{Verdict}
-use Rattle.tray.specs.declared.Verdict.the-variants.{Counted, WordTooWide, NoSuchSeat}
-use Rattle.tray.specs.Seat.{window, too-wide}
+use Rattle.tray.specs.declared.Verdict.the-variants.{Counted, WrongWidth, WordTooWide, NoSuchSeat, LowCutoff}
+use Rattle.tray.specs.Seat.{window, wrong-width, too-wide, low-cutoff}
 use Rattle.tray.specs.Standard.{repetitionTest, proportionTest}
 use Rattle.tray.specs.Tray.{replyTo, trayAfter}
 
@@ -32,13 +32,16 @@ module _ (width repetition proportion : ℕ) where
   samplesOf seat [] = []
   samplesOf seat (a ∷ rest) = cond (eqb (a .seat) seat && not (too-wide width (a .word))) (a .word ∷ samplesOf seat rest) (samplesOf seat rest)
 
-  -- What the standard says at an arrival in a tray of `size` records, after those that came `before` it.
+  -- What is expected at an arrival in a tray of `size` records, after those that came `before` it: a refusal of the width, the word, the seat or the
+  -- cutoffs, or the standard's alarms. No record is damaged.
   unfoldable pub standard : ℕ → List Arrival → Arrival → Verdict
   standard size before a =
-      cond (too-wide width (a .word)) WordTooWide
+      cond (wrong-width width) WrongWidth
+      (cond (too-wide width (a .word)) WordTooWide
       (cond (ltb (a .seat) size && ltb (a .seat) 64)
-      (Counted (repetitionTest repetition (samplesOf (a .seat) before) (a .word)) (proportionTest (window width) proportion (samplesOf (a .seat) before) (a .word)))
-      NoSuchSeat)
+      (cond (low-cutoff repetition proportion) LowCutoff
+      (Counted (repetitionTest repetition (samplesOf (a .seat) before) (a .word)) (proportionTest (window width) proportion (samplesOf (a .seat) before) (a .word))))
+      NoSuchSeat))
 
   -- at each of several arrivals
   unfoldable pub standards : ℕ → List Arrival → List Arrival → List Verdict
