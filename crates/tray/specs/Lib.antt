@@ -1,3 +1,4 @@
+pub mod Procedure
 pub mod Seat
 pub mod Sequence
 pub mod Standard

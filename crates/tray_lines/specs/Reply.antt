@@ -24,7 +24,7 @@ textOf Damage = record { answer = numberOf Damage; repetition = false; proportio
 abbrev pub sampleOf : Sample → ℕ → Sample
 sampleOf settings word = record { width = settings .width; word = word; repetition = settings .repetition; proportion = settings .proportion }
 
--- "a line that isn't two numbers [..] is answer 9", and changes nothing
+-- A line that is not two numbers is answer 9, and changes nothing.
 abbrev pub textOn : List Seat → Line → Sample → Text
 textOn tray (Read seat word) settings = textOf (replyTo tray seat (sampleOf settings word))
 textOn tray Unread settings = record { answer = 9; repetition = false; proportion = false }

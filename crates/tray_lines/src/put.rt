@@ -1,4 +1,4 @@
-// Writing a reply line into a lent buffer: "line number, answer number, repetition alarm, proportion alarm (0 or 1)", parted by tabs.
+// Writing a reply line into a lent buffer: line number, answer number, repetition alarm and proportion alarm (0 or 1), parted by tabs.
 
 use crate::answer::Text;
 ghost use Prim.Native.Nat.{_+_, _≤_};
