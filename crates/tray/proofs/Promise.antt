@@ -37,9 +37,9 @@ module _ (width repetition proportion : ℕ) (fits : repetition ≤ top) where
   sample = sampleOf width repetition proportion
 
   -- The tray's records follow their seats' samples. With a width or a cutoff that is refused nothing is counted, and nothing is asked of them.
-  record AllFollow (size : ℕ) (before : List Arrival) (tray : List Seat) : Type 0 where
-    long : length tray ≡ size
-    each : wrong-width width ≡ false → low-cutoff repetition proportion ≡ false → (seat : ℕ) → isSeat size seat ≡ true → Follows (window width) (samples seat before) (getD tray seat fresh)
+  pub record AllFollow (size : ℕ) (before : List Arrival) (tray : List Seat) : Type 0 where
+    pub long : length tray ≡ size
+    pub each : wrong-width width ≡ false → low-cutoff repetition proportion ≡ false → (seat : ℕ) → isSeat size seat ≡ true → Follows (window width) (samples seat before) (getD tray seat fresh)
 
   samples-snoc : (seat : ℕ) (before : List Arrival) (a : Arrival)
       → samples seat (before ++ a ∷ []) ≡ cond (eqb (a .seat) seat && not (too-wide width (a .word))) (samples seat before ++ a .word ∷ []) (samples seat before)
@@ -57,9 +57,9 @@ module _ (width repetition proportion : ℕ) (fits : repetition ≤ top) where
 
   -- One arrival: the answer is the standard's, and the records still follow.
   module _ (size : ℕ) (before : List Arrival) (tray : List Seat) (follow : AllFollow size before tray) (a : Arrival) where
-    record Right : Type 0 where
-      answers : replyTo tray (a .seat) (sample a) ≡ standard width repetition proportion size before a
-      leaves : AllFollow size (before ++ a ∷ []) (trayAfter tray (a .seat) (sample a))
+    pub record Right : Type 0 where
+      pub answers : replyTo tray (a .seat) (sample a) ≡ standard width repetition proportion size before a
+      pub leaves : AllFollow size (before ++ a ∷ []) (trayAfter tray (a .seat) (sample a))
 
     -- a refusal, with no seat's samples changed
     refused : (t : Verdict) → isCounted t ≡ false → replyTo tray (a .seat) (sample a) ≡ t → standard width repetition proportion size before a ≡ t
@@ -114,7 +114,7 @@ module _ (width repetition proportion : ℕ) (fits : repetition ≤ top) where
         leaves = record { long = length-stays tray (a .seat) (sample a) ∙ follow .long; each = λ wide high seat is. rw left (still seat is) };
       }
 
-    one : Right
+    pub one : Right
     unfolding replyTo verdict standard isPresent
     one = by-cases (wrong-width width) (too-wide width (a .word)) (isSeat size (a .seat)) (low-cutoff repetition proportion) refl refl refl refl
       where
@@ -138,12 +138,14 @@ module _ (width repetition proportion : ℕ) (fits : repetition ≤ top) where
       let right = one size before tray follow a in
       rw (right .answers, all-right size (before ++ a ∷ []) (trayAfter tray (a .seat) (sample a)) (right .leaves) rest)
 
+  pub all-fresh : (size : ℕ) → AllFollow size [] (replicate size fresh)
+  unfolding samplesOf
+  all-fresh size = record {
+    long = length-replicate size fresh;
+    each = λ wide high seat is. rw (getD-replicate size seat fresh fresh (ltb-true seat size (both (ltb seat size) (ltb seat 64) is .0))) (fresh-follows (window width));
+  }
+
   -- THE PROMISE
   pub alarms-are-the-standard's : (size : ℕ) (arrivals : List Arrival)
       → replies width repetition proportion (replicate size fresh) arrivals ≡ standards width repetition proportion size [] arrivals
-  unfolding samplesOf
-  alarms-are-the-standard's size arrivals =
-      all-right size [] (replicate size fresh) (record {
-        long = length-replicate size fresh;
-        each = λ wide high seat is. rw (getD-replicate size seat fresh fresh (ltb-true seat size (both (ltb seat size) (ltb seat 64) is .0))) (fresh-follows (window width));
-      }) arrivals
+  alarms-are-the-standard's size arrivals = all-right size [] (replicate size fresh) (all-fresh size) arrivals

@@ -1,2 +1,3 @@
 mod Numbers
+pub mod Promise
 mod Tabs
