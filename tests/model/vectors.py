@@ -12,6 +12,8 @@ import sys
 
 import lines
 import raw
+import tray
+import tray_vectors
 from damage import KINDS, Draw, tables
 
 
@@ -302,6 +304,10 @@ FILES = [
 ]
 
 
+# The programs of the tray, and which of tray_vectors.py's inputs each is run on.
+TRAY = [("vectors_tray_bits", "tray_bits"), ("vectors_tray_words", "tray_wild")]
+
+
 def made_by(seed, wanted=lambda model: True):
     """Of each file whose model is wanted, for a seed: its name, its lines, what ends the last of them, and the model that answers."""
     place = 0
@@ -320,6 +326,12 @@ def contents(seed):
         data = b"\n".join(made) + end
         yield os.path.join(name, "stdin"), data
         yield os.path.join(name, "stdout"), model(data)
+    made = {name: (arguments, data) for name, arguments, data in tray_vectors.made_by(seed)}
+    for name, part in TRAY:
+        arguments, data = made[part]
+        yield os.path.join(name, "args"), "".join(f"{a}\n" for a in arguments).encode()
+        yield os.path.join(name, "stdin"), data
+        yield os.path.join(name, "stdout"), tray.run(data, *arguments)
 
 
 def write(folder, seed):
