@@ -9,7 +9,7 @@ import os
 import sys
 
 import tray
-from vectors import Dice
+from damage import Dice
 
 
 def line(seat, word):

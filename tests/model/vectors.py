@@ -14,27 +14,11 @@ import lines
 import raw
 import tray
 import tray_vectors
-from damage import KINDS, Draw, tables
+from damage import KINDS, Dice, tables
 
 
 def op(word, k=None):
     return word.encode() if k is None else f"{word}\t{k}".encode()
-
-
-class Dice(Draw):
-    def one_of(self, things):
-        return things[self.draw(len(things))]
-
-    def below(self, n):
-        """Any number below n, where n may be above 65,536."""
-        return self.draw(n) if n <= 65536 else self.wild() * n // 2 ** 32
-
-    def shuffled(self, things):
-        things = list(things)
-        for i in range(len(things) - 1, 0, -1):
-            j = self.draw(i + 1)
-            things[i], things[j] = things[j], things[i]
-        return things
 
 
 def some_words(g, w, n, dense):
