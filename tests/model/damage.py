@@ -46,6 +46,22 @@ class Draw:
         return a * 65536 + b
 
 
+class Dice(Draw):
+    def one_of(self, things):
+        return things[self.draw(len(things))]
+
+    def below(self, n):
+        """Any number below n, where n may be above 65,536."""
+        return self.draw(n) if n <= 65536 else self.wild() * n // 2 ** 32
+
+    def shuffled(self, things):
+        things = list(things)
+        for i in range(len(things) - 1, 0, -1):
+            j = self.draw(i + 1)
+            things[i], things[j] = things[j], things[i]
+        return things
+
+
 def change_one_word(g, word, table, c):
     p = g.draw(3 * c)
     v = g.draw(6)

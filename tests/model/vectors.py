@@ -12,27 +12,13 @@ import sys
 
 import lines
 import raw
-from damage import KINDS, Draw, tables
+import tray
+import tray_vectors
+from damage import KINDS, Dice, tables
 
 
 def op(word, k=None):
     return word.encode() if k is None else f"{word}\t{k}".encode()
-
-
-class Dice(Draw):
-    def one_of(self, things):
-        return things[self.draw(len(things))]
-
-    def below(self, n):
-        """Any number below n, where n may be above 65,536."""
-        return self.draw(n) if n <= 65536 else self.wild() * n // 2 ** 32
-
-    def shuffled(self, things):
-        things = list(things)
-        for i in range(len(things) - 1, 0, -1):
-            j = self.draw(i + 1)
-            things[i], things[j] = things[j], things[i]
-        return things
 
 
 def some_words(g, w, n, dense):
@@ -302,6 +288,10 @@ FILES = [
 ]
 
 
+# The programs of the tray, and which of tray_vectors.py's inputs each is run on.
+TRAY = [("vectors_tray_bits", "tray_bits"), ("vectors_tray_words", "tray_wild")]
+
+
 def made_by(seed, wanted=lambda model: True):
     """Of each file whose model is wanted, for a seed: its name, its lines, what ends the last of them, and the model that answers."""
     place = 0
@@ -320,6 +310,12 @@ def contents(seed):
         data = b"\n".join(made) + end
         yield os.path.join(name, "stdin"), data
         yield os.path.join(name, "stdout"), model(data)
+    made = {name: (arguments, data) for name, arguments, data in tray_vectors.made_by(seed)}
+    for name, part in TRAY:
+        arguments, data = made[part]
+        yield os.path.join(name, "args"), "".join(f"{a}\n" for a in arguments).encode()
+        yield os.path.join(name, "stdin"), data
+        yield os.path.join(name, "stdout"), tray.run(data, *arguments)
 
 
 def write(folder, seed):

@@ -1,0 +1,13 @@
+-- The tags of verdicts, as a `match` tells them: that of a refusal is not that of a count.
+use Prim.Native.Nat.{ℕ, _<_}
+use mathlib.Core.List.{[], _∷_}
+use mathlib.Core.Logic.{inl, inr}
+use native.Mathlib.Omega.{arith}
+use types.Run.{OneOf}
+
+pub later : (tag : ℕ) → OneOf (1 ∷ 2 ∷ 3 ∷ 4 ∷ 5 ∷ []) tag → 0 < tag
+later tag (inl e) = omega arith
+later tag (inr (inl e)) = omega arith
+later tag (inr (inr (inl e))) = omega arith
+later tag (inr (inr (inr (inl e)))) = omega arith
+later tag (inr (inr (inr (inr e)))) = omega arith

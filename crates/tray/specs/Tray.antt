@@ -1,0 +1,28 @@
+-- The tray: a list of seat records, of which a sample changes its seat's alone.
+-- Document 02, §6: "A sample for one seat changes that seat's record alone." [..] "13 for a seat that isn't in the tray or is 64 or more".
+use Prim.Native.Nat.{ℕ}
+use mathlib.Core.Path.{_≡_}
+use mathlib.Core.Bool.{Bool, _&&_}
+use mathlib.Core.List.{List}
+use lib.Dec.{ltb}
+use lib.ListN.{length, getD, set}
+use Rattle.tray.specs.declared.Seat.{Seat}
+use Rattle.tray.specs.declared.Sample.{Sample}
+use Rattle.tray.specs.declared.Verdict.{Verdict}
+use Rattle.tray.specs.Seat.{fresh, verdict, after}
+
+unfoldable pub isPresent : List Seat → ℕ → Bool
+isPresent tray seat = ltb seat (length tray) && ltb seat 64
+
+-- what a sample for a seat is answered with
+unfoldable pub replyTo : List Seat → ℕ → Sample → Verdict
+replyTo tray seat s = verdict (isPresent tray seat) (getD tray seat fresh) s
+
+-- The tray that it leaves: another record at that seat. Past the end of the tray `set` sets nothing.
+unfoldable pub trayAfter : List Seat → ℕ → Sample → List Seat
+trayAfter tray seat s = set tray seat (after (isPresent tray seat) (getD tray seat fresh) s)
+
+-- what `take_sample` ensures
+pub record Sampled (tray : List Seat) (seat : ℕ) (s : Sample) (left : List Seat) (answer : Verdict) : Type 0 where
+  pub answers : answer ≡ replyTo tray seat s
+  pub leaves : left ≡ trayAfter tray seat s
