@@ -1,0 +1,4 @@
+mod Lists
+mod Shapes
+mod Counting
+mod Weighing
