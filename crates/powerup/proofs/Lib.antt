@@ -2,3 +2,4 @@ mod Lists
 mod Shapes
 mod Counting
 mod Weighing
+pub mod Laws

@@ -52,7 +52,7 @@ dot-self [] = refl
 dot-self (c ∷ cs) = ap (λ (s : ℕ). c * c + s) (dot-self cs)
 
 -- All numbers of a list are below n.
-abbrev Under : ℕ → List ℕ → Type 0
+abbrev pub Under : ℕ → List ℕ → Type 0
 Under n [] = Unit
 Under n (x ∷ xs) = (x < n) × Under n xs
 
@@ -108,6 +108,10 @@ no-half-bytes = refl
 pub halves-under : (bytes : List ℕ) → Under 16 (halfBytes (bits bytes))
 halves-under [] = rw no-half-bytes tt
 halves-under (b ∷ bytes) = rw (half-bytes-of b bytes) (omega arith, (omega arith, halves-under bytes))
+
+pub halves-length : (bytes : List ℕ) → length (halfBytes (bits bytes)) ≡ 2 * length bytes
+halves-length [] = rw no-half-bytes
+halves-length (b ∷ bytes) = rw (half-bytes-of b bytes) (omega (arith, halves-length bytes))
 
 pairs-under : (x : ℕ) → x < 2 → (vs : List ℕ) → Under 16 vs → Under 32 (pairsFrom x vs)
 unfolding pairsFrom

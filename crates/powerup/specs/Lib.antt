@@ -5,3 +5,4 @@ pub mod Limits
 pub mod Verdicts
 pub mod Reply
 pub mod Steps
+pub mod Examples

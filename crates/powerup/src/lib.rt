@@ -4,6 +4,7 @@
 mod count;
 mod editions;
 mod judge;
+mod tables;
 
 ghost use mathlib.Core.Path.{_≡_};
 ghost use Rattle.powerup.specs.Reply.{numberOf, refused, replyOf};
