@@ -1,4 +1,6 @@
-// The counts of a block, a half-byte at a time.
+// The counts of a block, a half-byte at a time. How often each half-byte comes after each bit is counted: ones, poker counts and the runs that lie
+// inside a half-byte follow from these 32 numbers at the end. In the loop only the run that comes into the half-byte is measured, without a
+// branch that random bits would mispredict.
 use crate::Counts;
 use crate::RunCounts;
 use crate::tables::INSIDES;
@@ -49,11 +51,12 @@ pub struct Step {
 pub struct Tally {
     // how often each half-byte came after each bit
     pub pairs: [u32; 32],
-    // the runs that ended in another half-byte than they began, or at the end of one
+    // the runs that ended, by `place`, without those that begin and end inside one half-byte
     pub ended: [u32; 14],
     pub longest: u32,
 }
 
+// The counts of 2,500 bytes.
 pub(crate) fn count(bytes: &[u8]) -> Counts
     requires { ⌜ length (now bytes) ≡ 2500 ⌝ }
     ensures { λ r. ⌜ r ≡ countsOf (bits (now (bytes .entry))) ⌝ }
@@ -61,6 +64,7 @@ pub(crate) fn count(bytes: &[u8]) -> Counts
     counts_in(read_all(bytes))
 }
 
+// What a tally comes to.
 fn counts_in(t: Tally) -> Counts
     requires { ⌜ Small t ⌝ }
     ensures { λ r. ⌜ r ≡ countsIn t ⌝ }
@@ -79,6 +83,7 @@ fn counts_in(t: Tally) -> Counts
     }
 }
 
+// The runs of zeros of each length: those that ended in the loop, and those inside a half-byte.
 fn runs_of_zeros(t: Tally) -> [u32; 6]
     requires { ⌜ Small t ⌝ }
     ensures { λ r. ⌜ r ≡ runsIn 0 t ⌝ }
@@ -91,6 +96,7 @@ fn runs_of_zeros(t: Tally) -> [u32; 6]
     runs_of(ended, 0, x, y, z)
 }
 
+// The same for ones.
 fn runs_of_ones(t: Tally) -> [u32; 6]
     requires { ⌜ Small t ⌝ }
     ensures { λ r. ⌜ r ≡ runsIn 1 t ⌝ }
@@ -103,6 +109,7 @@ fn runs_of_ones(t: Tally) -> [u32; 6]
     runs_of(ended, 7, x, y, z)
 }
 
+// Reads every half-byte; then the last run has ended too.
 fn read_all(bytes: &[u8]) -> Tally
     requires { ⌜ length (now bytes) ≡ 2500 ⌝ }
     ensures { λ r. ⌜ Tallied (bits (now (bytes .entry))) r ⌝ }
@@ -130,12 +137,14 @@ fn read_all(bytes: &[u8]) -> Tally
     }
 }
 
+// Separate because a cast of an element would have to be proved to fit.
 fn wide(x: u8) -> u32
     ensures { λ r. ⌜ r ≡ x ⌝ }
 {
     x as u32
 }
 
+// Four more bits. Where no run ended, a run of no bits is counted, at a place that nobody reads.
 fn with_half(run: LastRun, half: u32, pairs: &mut [u32; 32], ended: &mut [u32; 14]) -> LastRun
     requires { ⌜ Ready run half (now pairs) (now ended) ⌝ }
     ensures { λ r. ⌜ r ≡ stepped run half .next ⌝ }
@@ -150,6 +159,7 @@ fn with_half(run: LastRun, half: u32, pairs: &mut [u32; 32], ended: &mut [u32; 1
     step.next
 }
 
+// The last run after four more bits, and the run that they ended.
 fn after(run: LastRun, half: u32) -> Step
     requires { ⌜ (run .bit < 2) × (half < 16) × (run .length ≤ 100000) ⌝ }
     ensures { λ r. ⌜ r ≡ stepped run half ⌝ }
@@ -184,6 +194,7 @@ fn larger(a: u32, b: u32) -> u32
     if a < b { b } else { a }
 }
 
+// The place of a run among the ended ones, where a length of 6 stands for 6 or more.
 fn place(bit: u32, length: u32) -> usize
     requires { ⌜ bit < 2 ⌝ }
     ensures { λ r. ⌜ r ≡ place bit length ⌝ }
@@ -192,6 +203,7 @@ fn place(bit: u32, length: u32) -> usize
     (7 * bit + most) as usize
 }
 
+// The pairs, each with its weight.
 fn over_pairs(pairs: [u32; 32], weights: [u32; 32]) -> u32
     requires { ⌜ Light pairs weights ⌝ }
     ensures { λ r. ⌜ (r ≡ dot pairs weights) × (r ≤ 3200000000) ⌝ }
@@ -219,6 +231,7 @@ fn weighed(counts: &[u32], weights: &[u32]) -> u32
     sum
 }
 
+// How often each half-byte occurs, after a zero and after a one.
 fn poker_counts(pairs: [u32; 32]) -> [u32; 16]
     requires { ⌜ (length pairs ≡ 32) × Few pairs 5000 ⌝ }
     ensures { λ r. ⌜ r ≡ pokerOf pairs ⌝ }
@@ -232,6 +245,7 @@ fn poker_counts(pairs: [u32; 32]) -> [u32; 16]
     poker
 }
 
+// The runs of one bit, whose places follow `first`; x, y and z are those of length 1, 2 and 3 inside a half-byte.
 fn runs_of(ended: [u32; 14], first: usize, x: u32, y: u32, z: u32) -> [u32; 6]
     requires { ⌜ (first ≤ 7) × (x ≤ 3200000000) × (y ≤ 3200000000) × (z ≤ 3200000000) × Few ended 5001 ⌝ }
     ensures { λ r. ⌜ r ≡ runsOf ended first x y z ⌝ }
