@@ -1,24 +1,22 @@
 -- What has been counted after some half-bytes, and that one more keeps it so. `all` are the bits of the block, `rest` those that are still to be read.
 -- Assumes nothing.
-use mathlib.Core.Path.{_≡_, refl, ap, sym, _∙_}
-use mathlib.Core.Bool.{Bool, true, false, cond, _&&_}
+use mathlib.Core.Path.{_≡_, refl, ap, _∙_}
+use mathlib.Core.Bool.{Bool, true, false, _&&_}
 use mathlib.Core.List.{List, [], _∷_, _++_}
-use mathlib.Core.Logic.{_⊎_, inl, inr, ⊎-elim}
-use Prim.Native.Nat.{ℕ, zero, suc, _+_, _*_, _/_, _%_, _≤_, _<_, min, max}
+use mathlib.Core.Logic.{⊎-elim}
+use Prim.Native.Nat.{ℕ, zero, suc, _+_, _*_, _/_, _%_, _≤_, _<_, max}
 use native.Mathlib.Omega.{arith}
 use native.Mathlib.Nat.{add-mul-mod-self-right}
 use native.Mathlib.Numerals.{add-one}
-use borrow.Author.Tests.{eqb-true, eqb-false, eq-eqb, ne-eqb}
+use borrow.Author.Tests.{eqb-true, ne-eqb}
 use lib.Dec.{eqb}
-use lib.ListN.{length, getD, drop, drop-of-length-le, replicate}
+use lib.ListN.{length, getD, drop, replicate}
 use lib.Seq.{drop-cons}
 use Rattle.powerup.specs.declared.count.LastRun.{LastRun}
-use Rattle.powerup.specs.declared.count.Step.{Step}
-use Rattle.powerup.specs.declared.count.Tally.{Tally}
 use Rattle.powerup.specs.Bits.{byteBits, bits}
-use Rattle.powerup.specs.Counts.{Run, run, occurrences, halfBytes, runsFrom, runs, isOf, howMany, longest}
-use Rattle.powerup.specs.Steps.{Few, raised, place, pair, leads, lasts, insides, stepped, halfBits, pairsFrom, pairsOf, innerRuns, total, Tallied, Ready, thirtyTwo}
-use Rattle.powerup.proofs.Lists.{either, Each, each, raised-length, raised-same, raised-other, raised-few, many-cons, many-append, longest-append, ended-raised, met-raised, longest-three, written-32}
+use Rattle.powerup.specs.Counts.{run, occurrences, halfBytes, runsFrom, runs, isOf, howMany, longest}
+use Rattle.powerup.specs.Steps.{Few, raised, place, pair, leads, lasts, insides, stepped, halfBits, pairsFrom, pairsOf, innerRuns, total, Tallied, Ready}
+use Rattle.powerup.proofs.Lists.{either, Each, each, raised-length, raised-other, raised-few, many-cons, many-append, ended-raised, met-raised, longest-three, written-32}
 use Rattle.powerup.proofs.Shapes.{inside, no-inner, ends, shape}
 
 -- the runs of one kind that lie inside a pair's half-byte

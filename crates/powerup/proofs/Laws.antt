@@ -1,10 +1,10 @@
 -- What the definitions mean: the runs are the bits, cut where they change; the counts add up; a verdict is true exactly inside its limits; the
 -- refusals in their order. Assumes nothing.
 use mathlib.Core.Path.{_≡_, refl, ap, sym, _∙_}
-use mathlib.Core.Bool.{Bool, true, false, cond, _&&_}
+use mathlib.Core.Bool.{true}
 use mathlib.Core.List.{List, [], _∷_, _++_, map}
 use mathlib.Core.Logic.{_↔_, ⊎-elim}
-use Prim.Native.Nat.{ℕ, zero, suc, _+_, _*_, _/_, _%_, _≤_, _<_}
+use Prim.Native.Nat.{ℕ, zero, suc, _+_, _*_, _≤_, _<_}
 use native.Mathlib.Omega.{arith}
 use borrow.Author.Tests.{ltb-true, leb-true, lt-ltb, le-leb, eqb-true, eqb-false, eq-eqb, ne-eqb}
 use lib.Dec.{eqb, ltb, leb}
@@ -13,8 +13,8 @@ use Rattle.powerup.specs.declared.Interval.{Interval}
 use Rattle.powerup.specs.declared.Limits.{Limits}
 use Rattle.powerup.specs.declared.Counts.{Counts}
 use Rattle.powerup.specs.declared.Answer.the-variants.{WrongLength, WrongEdition}
-use Rattle.powerup.specs.Bits.{byteBits, bits}
-use Rattle.powerup.specs.Counts.{Run, run, runsFrom, runs, occurrences, halfBytes, pokerCounts, sixteen}
+use Rattle.powerup.specs.Bits.{bits}
+use Rattle.powerup.specs.Counts.{Run, runsFrom, runs, occurrences, halfBytes, pokerCounts, sixteen}
 use Rattle.powerup.specs.Verdicts.{between, within, verdictsOf}
 use Rattle.powerup.specs.Reply.{refused, judged, replyOf}
 use Rattle.powerup.proofs.Lists.{either, both, Each, each}

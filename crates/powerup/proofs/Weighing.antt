@@ -1,6 +1,6 @@
 -- From a tally to the counts: what depends on the half-bytes alone is a sum over the pairs, each as often as it occurs. Assumes nothing.
 use mathlib.Core.Path.{_≡_, refl, ap, sym, _∙_}
-use mathlib.Core.Bool.{Bool, true, false, cond, _&&_}
+use mathlib.Core.Bool.{Bool, true, cond, _&&_}
 use mathlib.Core.List.{List, [], _∷_, _++_, map}
 use mathlib.Core.Logic.{⊎-elim}
 use Prim.Native.Nat.{ℕ, zero, suc, _+_, _*_, _/_, _%_, _≤_, _<_}
@@ -9,9 +9,9 @@ use borrow.Author.Tests.{leb-true, eqb-true, eqb-false, eq-eqb, ne-eqb}
 use lib.Dec.{eqb, leb}
 use lib.ListN.{length, getD}
 use Rattle.powerup.specs.declared.count.Tally.{Tally}
-use Rattle.powerup.specs.Bits.{byteBits, bits}
+use Rattle.powerup.specs.Bits.{bits}
 use Rattle.powerup.specs.Counts.{sixteen, sizes, occurrences, halfBytes, pokerCounts, sumOfSquares, runsFrom, runs, isOf, howMany, runCounts, countsOf}
-use Rattle.powerup.specs.Steps.{Few, Light, Small, Tallied, pair, place, halfBits, pairsFrom, pairsOf, innerRuns, butLast, total, thirtyTwo, dot, pokerOf, runsOf, onesAt, insideAt, runsIn, countsIn}
+use Rattle.powerup.specs.Steps.{Few, Light, Small, Tallied, pair, place, halfBits, pairsFrom, pairsOf, innerRuns, butLast, total, thirtyTwo, dot, pokerOf, onesAt, insideAt, runsIn, countsIn}
 use Rattle.powerup.proofs.Lists.{either, both, Each, each, at-16, written-16, at-32}
 use Rattle.powerup.proofs.Counting.{inner, half-of, byte-halves}
 

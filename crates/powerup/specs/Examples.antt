@@ -1,10 +1,9 @@
 -- The definitions on small lists, computed.
 use mathlib.Core.Path.{_≡_, refl}
 use mathlib.Core.Bool.{true, false}
-use mathlib.Core.List.{List, [], _∷_}
-use Prim.Native.Nat.{ℕ}
+use mathlib.Core.List.{[], _∷_}
 use Rattle.powerup.specs.Bits.{bits}
-use Rattle.powerup.specs.Counts.{run, occurrences, halfBytes, runsFrom, runs, isOf, howMany, longest}
+use Rattle.powerup.specs.Counts.{run, halfBytes, runsFrom, runs, isOf, howMany, longest}
 use Rattle.powerup.specs.Limits.{first-edition, second-edition}
 use Rattle.powerup.specs.Verdicts.{between, within}
 

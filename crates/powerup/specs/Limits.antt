@@ -1,7 +1,7 @@
 -- The numbers of the two editions, and nothing else of them. Document 02 §9: "from FIPS 140-1 and from FIPS 140-2 before its Change Notice 2; the
 -- numbers here decide."
 use Prim.Native.Nat.{ℕ}
-use mathlib.Core.List.{List, [], _∷_}
+use mathlib.Core.List.{[], _∷_}
 use Rattle.powerup.specs.declared.Interval.{Interval}
 use Rattle.powerup.specs.declared.Limits.{Limits}
 

@@ -9,7 +9,6 @@ use Rattle.powerup.specs.declared.count.LastRun.{LastRun}
 use Rattle.powerup.specs.declared.count.Step.{Step}
 use Rattle.powerup.specs.declared.count.Tally.{Tally}
 use Rattle.powerup.specs.declared.Counts.{Counts}
-use Rattle.powerup.specs.Bits.{bits}
 use Rattle.powerup.specs.Counts.{Run, occurrences, sumOfSquares, sixteen, halfBytes, runsFrom, runs, howMany, longest}
 
 -- no number is above n

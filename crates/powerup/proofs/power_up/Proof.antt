@@ -1,6 +1,5 @@
 -- `powerup::power_up` meets its contract. Assumes nothing.
 use borrow.Author.Needs.{needs}
-use mathlib.Core.Path.{_∙_}
 use borrow.Author.Tests.{eq-eqb, ne-eqb}
 use Rattle.powerup.specs.Reply.{replyOf}
 use Rattle.powerup.proofs.power_up.Statement.{statement}
