@@ -1,6 +1,6 @@
 // The counts of a block, a half-byte at a time. How often each half-byte comes after each bit is counted: ones, poker counts and the runs that lie
-// inside a half-byte follow from these 32 numbers at the end. In the loop only the run that comes into the half-byte is measured, without a
-// branch that random bits would mispredict.
+// inside a half-byte follow from these 32 numbers at the end. In the loop only the run that comes into the half-byte is measured, with one
+// branch, which random bits take once in sixteen.
 use crate::Counts;
 use crate::RunCounts;
 use crate::tables::INSIDES;
