@@ -13,7 +13,7 @@ import os
 import sys
 
 from powerup import BLOCK, LIMITS, count, run, test
-from vectors import Dice
+from damage import Dice
 
 SEED = 9
 BITS = 8 * BLOCK

@@ -1,8 +1,8 @@
--- `powerup_main::blocks` meets its contract. Assumes nothing.
+-- `powerup_lines::blocks` meets its contract. Assumes nothing.
 use borrow.Author.Needs.{needs}
 use Prim.Native.Nat.{_≤_, _-_}
-use Rattle.powerup_main.proofs.blocks.Statement.{statement}
-use Rattle.powerup_main.proofs.blocks.Tie as tie
+use Rattle.powerup_lines.proofs.blocks.Statement.{statement}
+use Rattle.powerup_lines.proofs.blocks.Tie as tie
 
 abbrev Inv-loop : tie.InvT-loop
 Inv-loop edition counts number₀ number = number ≤ 18446744073709551615

@@ -1,10 +1,10 @@
--- `powerup_main::line::put` meets its contract. Assumes nothing.
+-- `powerup_lines::line::put` meets its contract. Assumes nothing.
 use native.Mathlib.Omega.{arith}
 use Prim.Native.Nat.{_≤_, _-_}
 use mathlib.Core.Path.{_≡_}
 use lib.ListN.{length, length-set}
-use Rattle.powerup_main.proofs.line.put.Statement.{statement}
-use Rattle.powerup_main.proofs.line.put.Tie as tie
+use Rattle.powerup_lines.proofs.line.put.Statement.{statement}
+use Rattle.powerup_lines.proofs.line.put.Tie as tie
 
 abbrev Inv-loop : tie.InvT-loop
 Inv-loop out₀ at text to₀ i₀ out to i = (to ≤ length out) × (i ≤ length text) × (length out ≡ length out₀)

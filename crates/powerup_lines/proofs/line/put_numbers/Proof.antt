@@ -1,11 +1,11 @@
--- `powerup_main::line::put_numbers` meets its contract. Assumes nothing.
+-- `powerup_lines::line::put_numbers` meets its contract. Assumes nothing.
 use native.Mathlib.Omega.{arith}
 use borrow.Author.Needs.{needs}
 use Prim.Native.Nat.{_≤_, _-_}
 use mathlib.Core.Path.{_≡_}
 use lib.ListN.{length}
-use Rattle.powerup_main.proofs.line.put_numbers.Statement.{statement}
-use Rattle.powerup_main.proofs.line.put_numbers.Tie as tie
+use Rattle.powerup_lines.proofs.line.put_numbers.Statement.{statement}
+use Rattle.powerup_lines.proofs.line.put_numbers.Tie as tie
 
 abbrev Inv-loop : tie.InvT-loop
 Inv-loop out₀ at numbers to₀ i₀ out to i = (to ≤ length out) × (i ≤ length numbers) × (length out ≡ length out₀)

@@ -1,9 +1,9 @@
--- `powerup_main::block` meets its contract. Assumes nothing.
+-- `powerup_lines::block` meets its contract. Assumes nothing.
 use borrow.Author.Needs.{needs}
 use mathlib.Core.Path.{sym}
 use lib.Seq.{length-take-le}
-use Rattle.powerup_main.proofs.block.Statement.{statement}
-use Rattle.powerup_main.proofs.block.Tie as tie
+use Rattle.powerup_lines.proofs.block.Statement.{statement}
+use Rattle.powerup_lines.proofs.block.Tie as tie
 
 slice-aggregate-read-full : tie.Need-slice-aggregate-read-full
 slice-aggregate-read-full c = search needs
