@@ -11,6 +11,8 @@ import os
 import sys
 
 import lines
+import powerup
+import powerup_vectors
 import raw
 import tray
 import tray_vectors
@@ -292,6 +294,10 @@ FILES = [
 TRAY = [("vectors_tray_bits", "tray_bits"), ("vectors_tray_words", "tray_wild")]
 
 
+# The programs of the power-up tests, and which of powerup_vectors.py's inputs each is run on.
+POWERUP = [("powerup_main", "powerup_2"), ("vectors_powerup", "powerup_1")]
+
+
 def made_by(seed, wanted=lambda model: True):
     """Of each file whose model is wanted, for a seed: its name, its lines, what ends the last of them, and the model that answers."""
     place = 0
@@ -310,6 +316,12 @@ def contents(seed):
         data = b"\n".join(made) + end
         yield os.path.join(name, "stdin"), data
         yield os.path.join(name, "stdout"), model(data)
+    made = {name: (edition, data) for name, edition, data in powerup_vectors.files(9)}
+    for name, part in POWERUP:
+        edition, data = made[part]
+        yield os.path.join(name, "args"), f"{edition}\n--counts\n".encode()
+        yield os.path.join(name, "stdin"), data
+        yield os.path.join(name, "stdout"), powerup.run(data, edition, True)
     made = {name: (arguments, data) for name, arguments, data in tray_vectors.made_by(seed)}
     for name, part in TRAY:
         arguments, data = made[part]

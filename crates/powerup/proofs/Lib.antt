@@ -1,0 +1,5 @@
+mod Lists
+mod Shapes
+mod Counting
+mod Weighing
+pub mod Laws

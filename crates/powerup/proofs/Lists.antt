@@ -1,0 +1,152 @@
+-- Laws of the lists that are counted: a number raised, occurrences, runs of one kind, the longest. Assumes nothing.
+use mathlib.Core.Path.{_≡_, refl, ap, sym, _∙_}
+use mathlib.Core.Bool.{Bool, true, false, cond, _&&_}
+use mathlib.Core.List.{List, [], _∷_, _++_, map}
+use mathlib.Core.Logic.{_⊎_, inl, inr, ⊎-elim}
+use Prim.Native.Nat.{ℕ, zero, suc, _+_, _*_, _≤_, _<_, min, max}
+use native.Mathlib.Omega.{arith}
+use native.Mathlib.Numerals.{add-one}
+use borrow.Author.Tests.{eqb-true, eqb-false, eq-eqb}
+use lib.Dec.{eqb}
+use lib.ListN.{length, getD, drop, length-set}
+use lib.Seq.{getD-set-same, getD-set-other, drop-cons, ext-getD}
+use Rattle.powerup.specs.declared.Interval.{Interval}
+use Rattle.powerup.specs.Verdicts.{within, allWithin}
+use Rattle.powerup.specs.Counts.{Run, run, sixteen, occurrences, isOf, howMany, longest}
+use Rattle.powerup.specs.Steps.{Few, raised, place, dot, thirtyTwo}
+
+pub either : (t : Bool) → (t ≡ true) ⊎ (t ≡ false)
+either true = inl refl
+either false = inr refl
+
+-- what holds of each number below n, one after the other
+abbrev pub Each : (ℕ → Type 0) → ℕ → Type 0
+Each P zero = Unit
+Each P (suc n) = Each P n × P n
+
+pub each : (P : ℕ → Type 0) (n : ℕ) → Each P n → (v : ℕ) → v < n → P v
+each P zero e v h = absurd (omega arith)
+each P (suc n) e v h =
+    ⊎-elim (λ t. rw (eqb-true v n t) (e .1)) (λ f. each P n (e .0) v (omega (arith, eqb-false v n f))) (either (eqb v n))
+
+module _ (l : List ℕ) (i : ℕ) where
+  pub raised-length : length (raised l i) ≡ length l
+  unfolding raised
+  raised-length = length-set l i (getD l i 0 + 1)
+
+  pub raised-same : i < length l → getD (raised l i) i 0 ≡ suc (getD l i 0)
+  unfolding raised
+  raised-same h = getD-set-same l i (getD l i 0 + 1) 0 h ∙ add-one (getD l i 0)
+
+  pub raised-other : (j : ℕ) → (j ≡ i → ⊥) → getD (raised l i) j 0 ≡ getD l j 0
+  unfolding raised
+  raised-other j d = getD-set-other l i j (getD l i 0 + 1) 0 d
+
+  pub raised-few : (n : ℕ) → i < length l → Few l n → Few (raised l i) (suc n)
+  raised-few n h few j =
+      ⊎-elim (λ t. let q : j ≡ i = eqb-true j i t in rw (q, raised-same h) (omega (arith, few i)))
+      (λ f. rw (raised-other j (eqb-false j i f)) (omega (arith, few j))) (either (eqb j i))
+
+pub many-cons : (b k : ℕ) (r : Run) (rs : List Run) → howMany b k (r ∷ rs) ≡ howMany b k (r ∷ []) + howMany b k rs
+unfolding howMany
+many-cons b k r rs = ⊎-elim (λ t. rw t (omega arith)) (λ f. rw f (omega arith)) (either (isOf b k r))
+
+pub many-append : (b k : ℕ) (qs rs : List Run) → howMany b k (qs ++ rs) ≡ howMany b k qs + howMany b k rs
+unfolding howMany
+many-append b k [] rs = omega arith
+many-append b k (q ∷ qs) rs =
+    ⊎-elim (λ t. rw t (omega (arith, many-append b k qs rs))) (λ f. rw f (many-append b k qs rs)) (either (isOf b k q))
+
+pub longest-append : (qs rs : List Run) → longest (qs ++ rs) ≡ max (longest qs) (longest rs)
+unfolding longest
+longest-append [] rs = omega arith
+longest-append (q ∷ qs) rs = omega (arith, longest-append qs rs)
+
+-- The longest of a run, of runs that it is followed by, and of those after them.
+pub longest-three :
+    (a b n i : ℕ) (qs rs : List Run)
+    → longest qs ≡ i
+    → max (max (max a n) i) (longest rs) ≡ max a (longest (run b n ∷ qs ++ rs))
+unfolding longest
+longest-three a b n i qs rs e =
+    let q : max i (longest rs) ≡ longest (qs ++ rs) = rw (← e) (sym (longest-append qs rs)) in
+    regroup a n i (longest rs) ∙ ap (λ (m : ℕ). max a (max n m)) q
+  where
+    regroup : (a n i r : ℕ) → max (max (max a n) i) r ≡ max a (max n (max i r))
+    regroup a n i r = omega arith
+
+pub both : (a b : Bool) → a && b ≡ true → (a ≡ true) × (b ≡ true)
+both true b h = (refl, h)
+both false b h = (h, cc)
+
+-- A run that has ended is raised at its own place and at no other.
+module _ (l : List ℕ) (size : length l ≡ 14) (c m b k : ℕ) (hc : c < 2) (hb : b < 2) (some : 0 < k) (most : k ≤ 6) where
+  pub ended-raised : getD (raised l (place c m)) (place b k) 0 ≡ getD l (place b k) 0 + howMany b k (run c m ∷ [])
+  unfolding howMany isOf
+  ended-raised =
+      ⊎-elim
+      (λ t.
+      let e = both (eqb c b) (eqb (min m 6) k) t in
+      let q : place b k ≡ place c m = omega (arith, eqb-true c b (e .0), eqb-true (min m 6) k (e .1)) in
+      rw (t, q, raised-same l (place c m) (omega arith)) (omega arith))
+      (λ f.
+      rw f
+      (raised-other l (place c m) (place b k)
+      (λ q.
+      let x : c ≡ b = omega arith in
+      let y : min m 6 ≡ k = omega arith in
+      let z : _≡_ {A = Bool} true false = cc (f, eq-eqb c b x, eq-eqb (min m 6) k y) in
+      absurd (omega (arith, ap {B = ℕ} (λ t. cond t 1 0) z)))
+      ∙ omega arith))
+      (either (eqb c b && eqb (min m 6) k))
+
+-- A number that was met is raised at its own place and at no other.
+pub met-raised : (l xs : List ℕ) (x p : ℕ) → x < length l → getD (raised l x) p 0 + occurrences p xs ≡ getD l p 0 + occurrences p (x ∷ xs)
+unfolding occurrences
+met-raised l xs x p h =
+    ⊎-elim (λ t. let q : x ≡ p = eqb-true x p t in rw (t, ← q, raised-same l x h) (omega arith))
+    (λ f. rw f (omega (arith, raised-other l x p (λ q. eqb-false x p f (sym q))))) (either (eqb x p))
+
+-- A list that is a function of its places is written out.
+module _ (f : ℕ → ℕ) where
+  At16 : ℕ → Type 0
+  At16 i = getD (map f sixteen) i 0 ≡ f i
+
+  all-16 : Each At16 16
+  unfolding At16
+  all-16 = ((((((((((((((((tt, refl), refl), refl), refl), refl), refl), refl), refl), refl), refl), refl), refl), refl), refl), refl), refl)
+
+  pub at-16 : (i : ℕ) → i < 16 → getD (map f sixteen) i 0 ≡ f i
+  unfolding At16
+  at-16 = each At16 16 all-16
+
+  pub written-16 : (l : List ℕ) → length l ≡ 16 → ((i : ℕ) → i < 16 → getD l i 0 ≡ f i) → l ≡ map f sixteen
+  written-16 l size e = ext-getD 0 l (map f sixteen) size (λ i h. e i (omega arith) ∙ sym (at-16 i (omega arith)))
+
+  At32 : ℕ → Type 0
+  At32 i = getD (map f thirtyTwo) i 0 ≡ f i
+
+  all-32 : Each At32 32
+  unfolding At32
+  all-32 =
+      ((((((((((((((((((((((((((((((((tt, refl), refl), refl), refl), refl), refl), refl), refl), refl), refl), refl), refl), refl), refl), refl), refl), refl), refl), refl), refl), refl), refl), refl), refl), refl), refl), refl), refl), refl), refl), refl), refl)
+
+  pub at-32 : (i : ℕ) → i < 32 → getD (map f thirtyTwo) i 0 ≡ f i
+  unfolding At32
+  at-32 = each At32 32 all-32
+
+  pub written-32 : (l : List ℕ) → length l ≡ 32 → ((i : ℕ) → i < 32 → getD l i 0 ≡ f i) → l ≡ map f thirtyTwo
+  written-32 l size e = ext-getD 0 l (map f thirtyTwo) size (λ i h. e i (omega arith) ∙ sym (at-32 i (omega arith)))
+
+-- One more product of a sum.
+pub dot-next :
+    (xs ws : List ℕ) (i : ℕ) → i < length xs → i < length ws
+    → dot (drop i xs) (drop i ws) ≡ getD xs i 0 * getD ws i 0 + dot (drop (suc i) xs) (drop (suc i) ws)
+unfolding dot
+dot-next xs ws i hx hw = rw (drop-cons xs i 0 hx, drop-cons ws i 0 hw)
+
+pub within-next :
+    (is : List Interval) (ns : List ℕ) (d : Interval) (i : ℕ) → i < length is → i < length ns
+    → allWithin (drop i is) (drop i ns) ≡ (within (getD is i d) (getD ns i 0) && allWithin (drop (suc i) is) (drop (suc i) ns))
+unfolding allWithin
+within-next is ns d i hi hn = rw (drop-cons is i d hi, drop-cons ns i 0 hn)

@@ -1,0 +1,98 @@
+-- How a half-byte carries the open run on: at each of the 32 pairs of a bit and a half-byte the runs are computed. Assumes nothing.
+use mathlib.Core.Path.{_≡_, refl}
+use mathlib.Core.Bool.{true, cond, _&&_}
+use mathlib.Core.List.{List, [], _∷_, _++_}
+use Prim.Native.Nat.{ℕ, zero, suc, _+_, _/_, _%_, _≤_, _<_}
+use native.Mathlib.Omega.{arith}
+use borrow.Author.Tests.{leb-true}
+use lib.Dec.{eqb, leb}
+use lib.ListN.{getD}
+use Rattle.powerup.specs.Counts.{Run, run, runsFrom, longest}
+use Rattle.powerup.specs.Steps.{pair, leads, lasts, insides, halfBits, innerRuns, butLast}
+use Rattle.powerup.proofs.Lists.{both, Each, each}
+
+-- k more than n, for a numeral k
+abbrev more : ℕ → ℕ → ℕ
+more zero n = n
+more (suc k) n = suc (more k n)
+
+more-is : (k n : ℕ) → more k n ≡ n + k
+more-is zero n = omega arith
+more-is (suc k) n = omega (arith, more-is k n)
+
+-- the runs of a pair's half-byte and of what follows, after n bits equal to the pair's
+abbrev shaped : (ℕ → ℕ → ℕ) → ℕ → ℕ → List ℕ → List Run
+shaped plus p n rest =
+    cond (eqb (getD leads p 0) 4) (runsFrom (p % 16 % 2) (plus 4 n) rest)
+    (run (p / 16) (plus (getD leads p 0) n) ∷ innerRuns p ++ runsFrom (p % 16 % 2) (getD lasts (p % 16) 0) rest)
+
+abbrev Shaped : ℕ → Type 0
+Shaped p = (n : ℕ) (rest : List ℕ) → runsFrom (p / 16) n (halfBits (p % 16) ++ rest) ≡ shaped more p n rest
+
+all-shaped : Each Shaped 32
+unfolding runsFrom innerRuns butLast
+all-shaped =
+    ((((((((((((((((((((((((((((((((tt, λ n rest. refl), λ n rest. refl), λ n rest. refl), λ n rest. refl), λ n rest. refl), λ n rest. refl), λ n rest. refl), λ n rest. refl), λ n rest. refl), λ n rest. refl), λ n rest. refl), λ n rest. refl), λ n rest. refl), λ n rest. refl), λ n rest. refl), λ n rest. refl), λ n rest. refl), λ n rest. refl), λ n rest. refl), λ n rest. refl), λ n rest. refl), λ n rest. refl), λ n rest. refl), λ n rest. refl), λ n rest. refl), λ n rest. refl), λ n rest. refl), λ n rest. refl), λ n rest. refl), λ n rest. refl), λ n rest. refl), λ n rest. refl)
+
+Inside : ℕ → Type 0
+Inside p = longest (innerRuns p) ≡ getD insides p 0
+
+all-inside : Each Inside 32
+unfolding Inside runsFrom innerRuns butLast longest
+all-inside =
+    ((((((((((((((((((((((((((((((((tt, refl), refl), refl), refl), refl), refl), refl), refl), refl), refl), refl), refl), refl), refl), refl), refl), refl), refl), refl), refl), refl), refl), refl), refl), refl), refl), refl), refl), refl), refl), refl), refl)
+
+pub inside : (p : ℕ) → p < 32 → longest (innerRuns p) ≡ getD insides p 0
+unfolding Inside
+inside = each Inside 32 all-inside
+
+NoInner : ℕ → Type 0
+NoInner p = cond (eqb (getD leads p 0) 4) (innerRuns p) [] ≡ []
+
+all-no-inner : Each NoInner 32
+unfolding NoInner runsFrom innerRuns butLast
+all-no-inner =
+    ((((((((((((((((((((((((((((((((tt, refl), refl), refl), refl), refl), refl), refl), refl), refl), refl), refl), refl), refl), refl), refl), refl), refl), refl), refl), refl), refl), refl), refl), refl), refl), refl), refl), refl), refl), refl), refl), refl)
+
+-- A run that goes on through a half-byte leaves no room for another.
+pub no-inner : (p : ℕ) → p < 32 → eqb (getD leads p 0) 4 ≡ true → innerRuns p ≡ []
+unfolding NoInner
+no-inner p h t = rw t at (each NoInner 32 all-no-inner p h)
+
+Low : ℕ → Type 0
+Low p = leb (getD leads p 0) 4 && leb (getD insides p 0) 3 ≡ true
+
+all-low : Each Low 32
+unfolding Low
+all-low =
+    ((((((((((((((((((((((((((((((((tt, refl), refl), refl), refl), refl), refl), refl), refl), refl), refl), refl), refl), refl), refl), refl), refl), refl), refl), refl), refl), refl), refl), refl), refl), refl), refl), refl), refl), refl), refl), refl), refl)
+
+pub low : (p : ℕ) → p < 32 → (getD leads p 0 ≤ 4) × (getD insides p 0 ≤ 3)
+unfolding Low
+low p h =
+    let e = both (leb (getD leads p 0) 4) (leb (getD insides p 0) 3) (each Low 32 all-low p h) in
+    (leb-true (getD leads p 0) 4 (e .0), leb-true (getD insides p 0) 3 (e .1))
+
+Ends : ℕ → Type 0
+Ends v = getD lasts v 0 ≤ 4
+
+all-ends : Each Ends 16
+unfolding Ends
+all-ends = omega arith
+
+pub ends : (v : ℕ) → v < 16 → getD lasts v 0 ≤ 4
+unfolding Ends
+ends = each Ends 16 all-ends
+
+module _ (b v : ℕ) (hb : b < 2) (hv : v < 16) where
+  -- what a half-byte does to a run of n bits b
+  pub shape :
+      (n : ℕ) (rest : List ℕ)
+      → runsFrom b n (halfBits v ++ rest)
+      ≡ cond (eqb (getD leads (pair b v) 0) 4) (runsFrom (v % 2) (n + 4) rest)
+      (run b (n + getD leads (pair b v) 0) ∷ innerRuns (pair b v) ++ runsFrom (v % 2) (getD lasts v 0) rest)
+  shape n rest =
+      let q : pair b v / 16 ≡ b = omega arith in
+      let r : pair b v % 16 ≡ v = omega arith in
+      let e : runsFrom (pair b v / 16) n (halfBits (pair b v % 16) ++ rest) ≡ shaped more (pair b v) n rest = each Shaped 32 all-shaped (pair b v) (omega arith) n rest in
+      rw (← more-is 4 n, ← more-is (getD leads (pair b v) 0) n) (rw (q, r) at e)

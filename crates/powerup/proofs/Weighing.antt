@@ -1,0 +1,258 @@
+-- From a tally to the counts: what depends on the half-bytes alone is a sum over the pairs, each as often as it occurs. Assumes nothing.
+use mathlib.Core.Path.{_≡_, refl, ap, sym, _∙_}
+use mathlib.Core.Bool.{Bool, true, cond, _&&_}
+use mathlib.Core.List.{List, [], _∷_, _++_, map}
+use mathlib.Core.Logic.{⊎-elim}
+use Prim.Native.Nat.{ℕ, zero, suc, _+_, _*_, _/_, _%_, _≤_, _<_}
+use native.Mathlib.Omega.{arith}
+use borrow.Author.Tests.{leb-true, eqb-true, eqb-false, eq-eqb, ne-eqb}
+use lib.Dec.{eqb, leb}
+use lib.ListN.{length, getD}
+use Rattle.powerup.specs.declared.count.Tally.{Tally}
+use Rattle.powerup.specs.Bits.{bits}
+use Rattle.powerup.specs.Counts.{sixteen, sizes, occurrences, halfBytes, pokerCounts, sumOfSquares, runsFrom, runs, isOf, howMany, runCounts, countsOf}
+use Rattle.powerup.specs.Steps.{Few, Light, Small, Tallied, pair, place, halfBits, pairsFrom, pairsOf, innerRuns, butLast, total, thirtyTwo, dot, pokerOf, onesAt, insideAt, runsIn, countsIn}
+use Rattle.powerup.proofs.Lists.{either, both, Each, each, at-16, written-16, at-32}
+use Rattle.powerup.proofs.Counting.{inner, half-of, byte-halves}
+
+-- Whether no number of a list is above n.
+abbrev pub atMost : ℕ → List ℕ → Bool
+atMost n [] = true
+atMost n (x ∷ xs) = leb x n && atMost n xs
+
+pub few-of : (n : ℕ) (l : List ℕ) → atMost n l ≡ true → Few l n
+few-of n [] t i = omega arith
+few-of n (x ∷ xs) t zero = leb-true x n (both (leb x n) (atMost n xs) t .0)
+few-of n (x ∷ xs) t (suc i) = few-of n xs (both (leb x n) (atMost n xs) t .1) i
+
+few-map : (f : ℕ → ℕ) (n : ℕ) → ((v : ℕ) → f v ≤ n) → (l : List ℕ) → Few (map f l) n
+few-map f n h [] i = omega arith
+few-map f n h (x ∷ xs) zero = h x
+few-map f n h (x ∷ xs) (suc i) = few-map f n h xs i
+
+pub light-of : {t : Tally} → Small t → (ws : List ℕ) → length ws ≡ 32 → atMost 10000 ws ≡ true → Light (t .pairs) ws
+light-of s ws size h = record {
+  same = s .size ∙ sym size;
+  most = omega (arith, s .size);
+  few = λ i. omega (arith, s .pairs i);
+  light = few-of 10000 ws h;
+}
+
+pub poker-few : (pairs : List ℕ) → Few pairs 5000 → Few (pokerOf pairs) 10000
+unfolding pokerOf
+poker-few pairs few = few-map (λ v. getD pairs v 0 + getD pairs (16 + v) 0) 10000 (λ v. omega (arith, few v, few (16 + v))) sixteen
+
+pub poker-size : (pairs : List ℕ) → length (pokerOf pairs) ≡ 16
+unfolding pokerOf
+poker-size pairs = refl
+
+pub dot-self : (cs : List ℕ) → dot cs cs ≡ sumOfSquares cs
+unfolding dot sumOfSquares
+dot-self [] = refl
+dot-self (c ∷ cs) = ap (λ (s : ℕ). c * c + s) (dot-self cs)
+
+-- All numbers of a list are below n.
+abbrev pub Under : ℕ → List ℕ → Type 0
+Under n [] = Unit
+Under n (x ∷ xs) = (x < n) × Under n xs
+
+Once : ℕ → Type 0
+Once p = occurrences p thirtyTwo ≡ 1
+
+all-once : Each Once 32
+unfolding Once occurrences
+all-once =
+    ((((((((((((((((((((((((((((((((tt, refl), refl), refl), refl), refl), refl), refl), refl), refl), refl), refl), refl), refl), refl), refl), refl), refl), refl), refl), refl), refl), refl), refl), refl), refl), refl), refl), refl), refl), refl), refl), refl)
+
+-- Each number of a list weighed as often as it occurs.
+module _ (f : ℕ → ℕ) where
+  weigh-none : (vs : List ℕ) → dot (map (λ p. occurrences p []) vs) (map f vs) ≡ 0
+  unfolding dot occurrences
+  weigh-none [] = refl
+  weigh-none (v ∷ vs) = omega (arith, weigh-none vs)
+
+  weigh-one :
+      (x : ℕ) (xs vs : List ℕ)
+      → dot (map (λ p. occurrences p (x ∷ xs)) vs) (map f vs) ≡ occurrences x vs * f x + dot (map (λ p. occurrences p xs) vs) (map f vs)
+  unfolding dot occurrences
+  weigh-one x xs [] = omega arith
+  weigh-one x xs (v ∷ vs) =
+      ⊎-elim (λ t. let q : x ≡ v = eqb-true x v t in rw (t, eq-eqb v x (sym q), ← q) (omega (arith, weigh-one x xs vs)))
+      (λ n.
+      let first : occurrences v (x ∷ xs) ≡ occurrences v xs = rw n in
+      let second : occurrences x (v ∷ vs) ≡ occurrences x vs = rw (ne-eqb v x (λ q. eqb-false x v n (sym q))) in
+      omega (arith, ap (λ (m : ℕ). m * f v) first, ap (λ (m : ℕ). m * f x) second, weigh-one x xs vs)) (either (eqb x v))
+
+  weigh : (ps : List ℕ) → Under 32 ps → dot (map (λ p. occurrences p ps) thirtyTwo) (map f thirtyTwo) ≡ total f ps
+  unfolding Once total
+  weigh [] u = weigh-none thirtyTwo
+  weigh (p ∷ ps) u =
+      omega (arith, weigh-one p ps thirtyTwo, ap (λ (n : ℕ). n * f p) (each Once 32 all-once p (u .0)), weigh ps (u .1))
+
+  total-zero : (ps : List ℕ) → Under 32 ps → ((p : ℕ) → p < 32 → f p ≡ 0) → total f ps ≡ 0
+  unfolding total
+  total-zero [] u z = refl
+  total-zero (p ∷ ps) u z = omega (arith, z p (u .0), total-zero ps (u .1) z)
+
+-- The half-bytes of bytes, one byte after the other.
+half-bytes-of : (b : ℕ) (bytes : List ℕ) → halfBytes (bits (b ∷ bytes)) ≡ b / 16 % 16 ∷ b % 16 ∷ halfBytes (bits bytes)
+unfolding bits
+half-bytes-of b bytes =
+    rw (byte-halves b (bits bytes))
+    (half-of (b / 16 % 16) (halfBits (b % 16) ++ bits bytes) (omega arith) ∙ ap (λ (l : List ℕ). b / 16 % 16 ∷ l) (half-of (b % 16) (bits bytes) (omega arith)))
+
+no-half-bytes : halfBytes (bits []) ≡ []
+unfolding bits halfBytes
+no-half-bytes = refl
+
+pub halves-under : (bytes : List ℕ) → Under 16 (halfBytes (bits bytes))
+halves-under [] = rw no-half-bytes tt
+halves-under (b ∷ bytes) = rw (half-bytes-of b bytes) (omega arith, (omega arith, halves-under bytes))
+
+pub halves-length : (bytes : List ℕ) → length (halfBytes (bits bytes)) ≡ 2 * length bytes
+halves-length [] = rw no-half-bytes
+halves-length (b ∷ bytes) = rw (half-bytes-of b bytes) (omega (arith, halves-length bytes))
+
+pairs-under : (x : ℕ) → x < 2 → (vs : List ℕ) → Under 16 vs → Under 32 (pairsFrom x vs)
+unfolding pairsFrom
+pairs-under x h [] u = tt
+pairs-under x h (v ∷ vs) u = (omega (arith, u .0), pairs-under (v % 2) (omega arith) vs (u .1))
+
+occurrences-append : (v : ℕ) (xs ys : List ℕ) → occurrences v (xs ++ ys) ≡ occurrences v xs + occurrences v ys
+unfolding occurrences
+occurrences-append v [] ys = omega arith
+occurrences-append v (x ∷ xs) ys =
+    ⊎-elim (λ t. rw t (omega (arith, occurrences-append v xs ys))) (λ f. rw f (occurrences-append v xs ys)) (either (eqb x v))
+
+-- the ones of a pair's half-byte
+abbrev onesOf : ℕ → ℕ
+onesOf p = occurrences 1 (halfBits (p % 16))
+
+ones-of-byte : (b : ℕ) (bytes : List ℕ) → occurrences 1 (bits (b ∷ bytes)) ≡ occurrences 1 (halfBits (b / 16 % 16)) + (occurrences 1 (halfBits (b % 16)) + occurrences 1 (bits bytes))
+unfolding bits
+ones-of-byte b bytes =
+    ap (occurrences 1) (byte-halves b (bits bytes))
+    ∙ occurrences-append 1 (halfBits (b / 16 % 16)) (halfBits (b % 16) ++ bits bytes)
+    ∙ ap (λ (n : ℕ). occurrences 1 (halfBits (b / 16 % 16)) + n) (occurrences-append 1 (halfBits (b % 16)) (bits bytes))
+
+ones-of-pair : (x v : ℕ) → v < 16 → onesOf (pair x v) ≡ occurrences 1 (halfBits v)
+ones-of-pair x v h = let q : pair x v % 16 ≡ v = omega arith in ap (λ (n : ℕ). occurrences 1 (halfBits n)) q
+
+no-ones : 0 ≡ occurrences 1 (bits [])
+unfolding bits occurrences
+no-ones = refl
+
+ones-total : (x : ℕ) (bytes : List ℕ) → total onesOf (pairsFrom x (halfBytes (bits bytes))) ≡ occurrences 1 (bits bytes)
+unfolding pairsFrom total
+ones-total x [] = rw no-half-bytes no-ones
+ones-total x (b ∷ bytes) =
+    rw (half-bytes-of b bytes)
+    (omega (
+      arith,
+      ones-of-byte b bytes,
+      ones-of-pair x (b / 16 % 16) (omega arith),
+      ones-of-pair (b / 16 % 16 % 2) (b % 16) (omega arith),
+      ones-total (b % 16 % 2) bytes,
+    ))
+
+-- A half-byte comes after a zero or after a one.
+hit : ℕ → ℕ → ℕ
+hit x v = cond (eqb x v) 1 0
+
+occurrences-cons : (v x : ℕ) (xs : List ℕ) → occurrences v (x ∷ xs) ≡ hit x v + occurrences v xs
+unfolding hit occurrences
+occurrences-cons v x xs = ⊎-elim (λ t. rw t (omega arith)) (λ f. rw f (omega arith)) (either (eqb x v))
+
+hit-pair : (x h v : ℕ) → x < 2 → h < 16 → v < 16 → hit (pair x h) v + hit (pair x h) (16 + v) ≡ hit h v
+unfolding hit
+hit-pair x h v hx hh hv =
+    ⊎-elim
+    (λ t.
+    let q : h ≡ v = eqb-true h v t in
+    ⊎-elim
+    (λ z. let y : x ≡ 0 = eqb-true x 0 z in rw (t, eq-eqb (pair x h) v (omega arith), ne-eqb (pair x h) (16 + v) (λ e. omega arith)))
+    (λ n.
+    let y : x ≡ 1 = omega (arith, eqb-false x 0 n) in
+    rw (t, ne-eqb (pair x h) v (λ e. omega arith), eq-eqb (pair x h) (16 + v) (omega arith)))
+    (either (eqb x 0)))
+    (λ f.
+    let d = eqb-false h v f in
+    rw (f, ne-eqb (pair x h) v (λ e. d (omega arith)), ne-eqb (pair x h) (16 + v) (λ e. d (omega arith))))
+    (either (eqb h v))
+
+poker-total :
+    (x : ℕ) → x < 2 → (vs : List ℕ) → Under 16 vs → (v : ℕ) → v < 16
+    → occurrences v (pairsFrom x vs) + occurrences (16 + v) (pairsFrom x vs) ≡ occurrences v vs
+unfolding pairsFrom occurrences
+poker-total x hx [] u v hv = refl
+poker-total x hx (h ∷ vs) u v hv =
+    omega (
+      arith,
+      occurrences-cons v (pair x h) (pairsFrom (h % 2) vs),
+      occurrences-cons (16 + v) (pair x h) (pairsFrom (h % 2) vs),
+      occurrences-cons v h vs,
+      hit-pair x h v hx (u .0) hv,
+      poker-total (h % 2) (omega arith) vs (u .1) v hv,
+    )
+
+-- No run of four or more lies inside a half-byte.
+Short : ℕ → Type 0
+Short p = inner 0 4 p + inner 0 5 p + inner 0 6 p + (inner 1 4 p + inner 1 5 p + inner 1 6 p) ≡ 0
+
+all-short : Each Short 32
+unfolding Short innerRuns butLast runsFrom howMany isOf
+all-short =
+    ((((((((((((((((((((((((((((((((tt, refl), refl), refl), refl), refl), refl), refl), refl), refl), refl), refl), refl), refl), refl), refl), refl), refl), refl), refl), refl), refl), refl), refl), refl), refl), refl), refl), refl), refl), refl), refl), refl)
+
+-- What a tally of a block's bits comes to.
+module _ (bytes : List ℕ) (t : Tally) (done : Tallied (bits bytes) t) where
+  pairs-below : Under 32 (pairsOf (bits bytes))
+  pairs-below = pairs-under 0 (omega arith) (halfBytes (bits bytes)) (halves-under bytes)
+
+  weighed : (f : ℕ → ℕ) → dot (t .pairs) (map f thirtyTwo) ≡ total f (pairsOf (bits bytes))
+  weighed f = rw (done .pairs) (weigh f (pairsOf (bits bytes)) pairs-below)
+
+  ones-right : dot (t .pairs) onesAt ≡ occurrences 1 (bits bytes)
+  unfolding onesAt
+  ones-right = weighed onesOf ∙ ones-total 0 bytes
+
+  poker-right : pokerOf (t .pairs) ≡ pokerCounts (bits bytes)
+  unfolding pokerOf pokerCounts
+  poker-right =
+      let ps = pairsOf (bits bytes) in
+      written-16 (λ v. occurrences v (halfBytes (bits bytes))) (pokerOf (t .pairs)) refl
+      (λ v h.
+      let low : getD (t .pairs) v 0 ≡ occurrences v (pairsOf (bits bytes)) = rw (done .pairs) (at-32 (λ p. occurrences p (pairsOf (bits bytes))) v (omega arith)) in
+      let high : getD (t .pairs) (16 + v) 0 ≡ occurrences (16 + v) (pairsOf (bits bytes)) = rw (done .pairs) (at-32 (λ p. occurrences p (pairsOf (bits bytes))) (16 + v) (omega arith)) in
+      at-16 (λ i. getD (t .pairs) i 0 + getD (t .pairs) (16 + i) 0) v h
+      ∙ omega (arith, low, high, poker-total 0 (omega arith) (halfBytes (bits bytes)) (halves-under bytes) v h))
+
+  runs-right : (b : ℕ) → b < 2 → ((p : ℕ) → p < 32 → inner b 4 p + inner b 5 p + inner b 6 p ≡ 0) → runsIn b t ≡ map (λ k. howMany b k (runs (bits bytes))) sizes
+  unfolding runsIn insideAt
+  runs-right b h short =
+      let some : (k : ℕ) → 0 < k → k ≤ 6 → getD (t .ended) (place b k) 0 + dot (t .pairs) (insideAt b k) ≡ howMany b k (runs (bits bytes)) =
+      λ k l m. omega (arith, done .ended b k h l m, weighed (inner b k)) in
+      let none : (k : ℕ) → 0 < k → k ≤ 6 → ((p : ℕ) → p < 32 → inner b k p ≡ 0) → getD (t .ended) (place b k) 0 ≡ howMany b k (runs (bits bytes)) =
+      λ k l m z. omega (arith, done .ended b k h l m, total-zero (inner b k) (pairsOf (bits bytes)) pairs-below z) in
+      cc (
+        some 1 (omega arith) (omega arith),
+        some 2 (omega arith) (omega arith),
+        some 3 (omega arith) (omega arith),
+        none 4 (omega arith) (omega arith) (λ p l. omega (arith, short p l)),
+        none 5 (omega arith) (omega arith) (λ p l. omega (arith, short p l)),
+        none 6 (omega arith) (omega arith) (λ p l. omega (arith, short p l)),
+      )
+
+  pub counts-right : countsIn t ≡ countsOf (bits bytes)
+  unfolding Short countsIn countsOf runCounts
+  counts-right =
+      rw (
+        ones-right,
+        poker-right,
+        runs-right 0 (omega arith) (λ p h. omega (arith, each Short 32 all-short p h)),
+        runs-right 1 (omega arith) (λ p h. omega (arith, each Short 32 all-short p h)),
+        done .longest,
+      )
+
+  pub small : Small t
+  small = record { size = rw (done .pairs); pairs = done .few-pairs; ended = done .few-ended }

@@ -1,0 +1,261 @@
+// The counts of a block, a half-byte at a time. How often each half-byte comes after each bit is counted: ones, poker counts and the runs that lie
+// inside a half-byte follow from these 32 numbers at the end. In the loop only the run that comes into the half-byte is measured, with one
+// branch, which random bits take once in sixteen.
+use crate::Counts;
+use crate::RunCounts;
+use crate::tables::INSIDES;
+use crate::tables::LASTS;
+use crate::tables::LEADS;
+use crate::tables::ONES;
+use crate::tables::ONES_OF_1;
+use crate::tables::ONES_OF_2;
+use crate::tables::ONES_OF_3;
+use crate::tables::ZEROS_OF_1;
+use crate::tables::ZEROS_OF_2;
+use crate::tables::ZEROS_OF_3;
+ghost use mathlib.Core.Path.{_≡_};
+ghost use Prim.Native.Nat.{_≤_, _<_, max};
+ghost use lib.ListN.{length};
+ghost use Rattle.powerup.specs.Bits.{bits};
+ghost use Rattle.powerup.specs.Counts.{countsOf, sumOfSquares};
+ghost use Rattle.powerup.specs.Steps.{
+  Few,
+  raised,
+  place,
+  pair,
+  stepped,
+  Tallied,
+  Ready,
+  Light,
+  dot,
+  pokerOf,
+  runsOf,
+  runsIn,
+  countsIn,
+  Small,
+};
+
+// The run that the last bit belongs to, and the longest of those before it.
+pub struct LastRun {
+    pub bit: u32,
+    pub length: u32,
+    pub longest: u32,
+}
+
+pub struct Step {
+    pub next: LastRun,
+    // the length of the run that ended, or 0
+    pub ended: u32,
+}
+
+pub struct Tally {
+    // how often each half-byte came after each bit
+    pub pairs: [u32; 32],
+    // the runs that ended, by `place`, without those that begin and end inside one half-byte
+    pub ended: [u32; 14],
+    pub longest: u32,
+}
+
+// The counts of 2,500 bytes.
+pub(crate) fn count(bytes: &[u8]) -> Counts
+    requires { ⌜ length (now bytes) ≡ 2500 ⌝ }
+    ensures { λ r. ⌜ r ≡ countsOf (bits (now (bytes .entry))) ⌝ }
+{
+    counts_in(read_all(bytes))
+}
+
+// What a tally comes to.
+fn counts_in(t: Tally) -> Counts
+    requires { ⌜ Small t ⌝ }
+    ensures { λ r. ⌜ r ≡ countsIn t ⌝ }
+{
+    let pairs = t.pairs;
+    let poker = poker_counts(pairs);
+    Counts {
+        ones: over_pairs(pairs, ONES),
+        poker,
+        sum: squares(poker),
+        runs: RunCounts {
+            zeros: runs_of_zeros(t),
+            ones: runs_of_ones(t),
+            longest: t.longest,
+        },
+    }
+}
+
+// The runs of zeros of each length: those that ended in the loop, and those inside a half-byte.
+fn runs_of_zeros(t: Tally) -> [u32; 6]
+    requires { ⌜ Small t ⌝ }
+    ensures { λ r. ⌜ r ≡ runsIn 0 t ⌝ }
+{
+    let pairs = t.pairs;
+    let ended = t.ended;
+    let x = over_pairs(pairs, ZEROS_OF_1);
+    let y = over_pairs(pairs, ZEROS_OF_2);
+    let z = over_pairs(pairs, ZEROS_OF_3);
+    runs_of(ended, 0, x, y, z)
+}
+
+// The same for ones.
+fn runs_of_ones(t: Tally) -> [u32; 6]
+    requires { ⌜ Small t ⌝ }
+    ensures { λ r. ⌜ r ≡ runsIn 1 t ⌝ }
+{
+    let pairs = t.pairs;
+    let ended = t.ended;
+    let x = over_pairs(pairs, ONES_OF_1);
+    let y = over_pairs(pairs, ONES_OF_2);
+    let z = over_pairs(pairs, ONES_OF_3);
+    runs_of(ended, 7, x, y, z)
+}
+
+// Reads every half-byte; then the last run has ended too.
+fn read_all(bytes: &[u8]) -> Tally
+    requires { ⌜ length (now bytes) ≡ 2500 ⌝ }
+    ensures { λ r. ⌜ Tallied (bits (now (bytes .entry))) r ⌝ }
+{
+    let mut pairs = [0u32; 32];
+    let mut ended = [0u32; 14];
+    let mut run = LastRun {
+        bit: 0,
+        length: 0,
+        longest: 0,
+    };
+    let mut i: usize = 0;
+    while i < bytes.len() {
+        let byte = wide(bytes[i]);
+        run = with_half(run, byte / 16, &mut pairs, &mut ended);
+        run = with_half(run, byte % 16, &mut pairs, &mut ended);
+        i += 1;
+    }
+    let at = place(run.bit, run.length);
+    ended[at] += 1;
+    Tally {
+        pairs,
+        ended,
+        longest: larger(run.longest, run.length),
+    }
+}
+
+// Separate because a cast of an element would have to be proved to fit.
+fn wide(x: u8) -> u32
+    ensures { λ r. ⌜ r ≡ x ⌝ }
+{
+    x as u32
+}
+
+// Four more bits. Where no run ended, a run of no bits is counted, at a place that nobody reads.
+fn with_half(run: LastRun, half: u32, pairs: &mut [u32; 32], ended: &mut [u32; 14]) -> LastRun
+    requires { ⌜ Ready run half (now pairs) (now ended) ⌝ }
+    ensures { λ r. ⌜ r ≡ stepped run half .next ⌝ }
+    ensures { λ r. ⌜ now (pairs .exit) ≡ raised (now (pairs .entry)) (pair (run .bit) half) ⌝ }
+    ensures { λ r. ⌜ now (ended .exit) ≡ raised (now (ended .entry)) (place (run .bit) (stepped run half .ended)) ⌝ }
+{
+    let pair = (16 * run.bit + half) as usize;
+    pairs[pair] += 1;
+    let step = after(run, half);
+    let at = place(run.bit, step.ended);
+    ended[at] += 1;
+    step.next
+}
+
+// The last run after four more bits, and the run that they ended.
+fn after(run: LastRun, half: u32) -> Step
+    requires { ⌜ (run .bit < 2) × (half < 16) × (run .length ≤ 100000) ⌝ }
+    ensures { λ r. ⌜ r ≡ stepped run half ⌝ }
+{
+    let pair = (16 * run.bit + half) as usize;
+    let lead = LEADS[pair] as u32;
+    if lead == 4 {
+        return Step {
+            next: LastRun {
+                bit: half % 2,
+                length: run.length + 4,
+                longest: run.longest,
+            },
+            ended: 0,
+        };
+    }
+    let ended = run.length + lead;
+    let at = half as usize;
+    Step {
+        next: LastRun {
+            bit: half % 2,
+            length: LASTS[at] as u32,
+            longest: larger(larger(run.longest, ended), INSIDES[pair] as u32),
+        },
+        ended,
+    }
+}
+
+fn larger(a: u32, b: u32) -> u32
+    ensures { λ r. ⌜ r ≡ max a b ⌝ }
+{
+    if a < b { b } else { a }
+}
+
+// The place of a run among the ended ones, where a length of 6 stands for 6 or more.
+fn place(bit: u32, length: u32) -> usize
+    requires { ⌜ bit < 2 ⌝ }
+    ensures { λ r. ⌜ r ≡ place bit length ⌝ }
+{
+    let most = if length < 6 { length } else { 6 };
+    (7 * bit + most) as usize
+}
+
+// The pairs, each with its weight.
+fn over_pairs(pairs: [u32; 32], weights: [u32; 32]) -> u32
+    requires { ⌜ Light pairs weights ⌝ }
+    ensures { λ r. ⌜ (r ≡ dot pairs weights) × (r ≤ 3200000000) ⌝ }
+{
+    weighed(&pairs, &weights)
+}
+
+fn squares(poker: [u32; 16]) -> u32
+    requires { ⌜ (length poker ≡ 16) × Few poker 10000 ⌝ }
+    ensures { λ r. ⌜ r ≡ sumOfSquares poker ⌝ }
+{
+    weighed(&poker, &poker)
+}
+
+fn weighed(counts: &[u32], weights: &[u32]) -> u32
+    requires { ⌜ Light (now counts) (now weights) ⌝ }
+    ensures { λ r. ⌜ (r ≡ dot (now (counts .entry)) (now (weights .entry))) × (r ≤ 3200000000) ⌝ }
+{
+    let mut sum: u32 = 0;
+    let mut i: usize = 0;
+    while i < counts.len() {
+        sum += counts[i] * weights[i];
+        i += 1;
+    }
+    sum
+}
+
+// How often each half-byte occurs, after a zero and after a one.
+fn poker_counts(pairs: [u32; 32]) -> [u32; 16]
+    requires { ⌜ (length pairs ≡ 32) × Few pairs 5000 ⌝ }
+    ensures { λ r. ⌜ r ≡ pokerOf pairs ⌝ }
+{
+    let mut poker = [0u32; 16];
+    let mut i: usize = 0;
+    while i < 16 {
+        poker[i] = pairs[i] + pairs[16 + i];
+        i += 1;
+    }
+    poker
+}
+
+// The runs of one bit, whose places follow `first`; x, y and z are those of length 1, 2 and 3 inside a half-byte.
+fn runs_of(ended: [u32; 14], first: usize, x: u32, y: u32, z: u32) -> [u32; 6]
+    requires { ⌜ (first ≤ 7) × (x ≤ 3200000000) × (y ≤ 3200000000) × (z ≤ 3200000000) × Few ended 5001 ⌝ }
+    ensures { λ r. ⌜ r ≡ runsOf ended first x y z ⌝ }
+{
+    [
+        ended[first + 1] + x,
+        ended[first + 2] + y,
+        ended[first + 3] + z,
+        ended[first + 4],
+        ended[first + 5],
+        ended[first + 6],
+    ]
+}

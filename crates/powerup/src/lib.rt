@@ -1,0 +1,111 @@
+// The four old power-up tests on 20,000 bits: monobit, poker, runs and long run, in two editions that differ in their numbers alone.
+//
+// Document 02 §9; specs/ quotes it, and says what each count and each verdict is.
+mod count;
+mod editions;
+mod judge;
+mod tables;
+
+ghost use mathlib.Core.Path.{_≡_};
+ghost use Rattle.powerup.specs.Reply.{numberOf, refused, replyOf};
+
+// How many runs there are of length 1, 2, 3, 4, 5, and 6 or more, and the longest.
+pub struct RunCounts {
+    pub zeros: [u32; 6],
+    pub ones: [u32; 6],
+    pub longest: u32,
+}
+
+pub struct Counts {
+    pub ones: u32,
+    // how often each half-byte occurs
+    pub poker: [u32; 16],
+    // the sum of the squares of these
+    pub sum: u32,
+    pub runs: RunCounts,
+}
+
+pub struct Interval {
+    pub low: u32,
+    pub high: u32,
+}
+
+// The numbers of an edition. Ones lie strictly between; the other intervals include their ends; a run of `long` bits is too long.
+pub struct Limits {
+    pub ones: Interval,
+    pub poker: Interval,
+    pub runs: [Interval; 6],
+    pub long: u32,
+}
+
+// Whether the block passes.
+pub struct Verdicts {
+    pub monobit: bool,
+    pub poker: bool,
+    pub runs: bool,
+    pub long: bool,
+}
+
+pub enum Answer {
+    Done,
+    WrongLength,
+    WrongEdition,
+}
+
+pub struct Reply {
+    pub answer: Answer,
+    pub counts: Counts,
+    pub verdicts: Verdicts,
+}
+
+impl Answer {
+    pub fn number(self) -> u32
+        ensures { λ r. ⌜ r ≡ numberOf self ⌝ }
+    {
+        match self {
+            Answer::Done => 0,
+            Answer::WrongLength => 16,
+            Answer::WrongEdition => 17,
+        }
+    }
+}
+
+// The counts of a block and its verdicts in an edition, 1 or 2.
+pub fn power_up(bytes: &[u8], edition: u32) -> Reply
+    ensures { λ r. ⌜ r ≡ replyOf (now (bytes .entry)) edition ⌝ }
+{
+    if bytes.len() != 2500 {
+        return refuse(Answer::WrongLength);
+    }
+    if edition == 1 {
+        return judge::judge(editions::first(), count::count(bytes));
+    }
+    if edition == 2 {
+        return judge::judge(editions::second(), count::count(bytes));
+    }
+    refuse(Answer::WrongEdition)
+}
+
+fn refuse(answer: Answer) -> Reply
+    ensures { λ r. ⌜ r ≡ refused answer ⌝ }
+{
+    Reply {
+        answer,
+        counts: Counts {
+            ones: 0,
+            poker: [0; 16],
+            sum: 0,
+            runs: RunCounts {
+                zeros: [0; 6],
+                ones: [0; 6],
+                longest: 0,
+            },
+        },
+        verdicts: Verdicts {
+            monobit: false,
+            poker: false,
+            runs: false,
+            long: false,
+        },
+    }
+}
