@@ -33,7 +33,7 @@ demand2 Last h table buffer S H = keeps-last h table buffer S H
 demand2 Audit h table buffer S H = keeps-audit h table buffer S H
 demand2 Call.List h table buffer S H = keeps-list h table buffer S H
 
--- the same of a call with a buffer of its own, where the table has room for `room` words
+-- demand 2 for a call with a buffer of its own, where the table has room for `room` words
 module _ (room : ℕ) (a : Asked) (s : State) (k : Kept) (same-room : capacity (s .table) ≡ room) (H : HoldsKept s k) where
   pub answers-as : AnswersAs after room a s k
   answers-as =

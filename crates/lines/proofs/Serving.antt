@@ -193,7 +193,7 @@ module _ (turns : ℕ) where
   fewer-turns (suc count) true h = omega arith
   fewer-turns (suc count) false h = h
 
--- the slices have their sizes, some input led here, and so many turns may still read
+-- the slices have their sizes, some input led here, and the turns that are left may still read
 pub record Serving (table₀ words₀ buffer₀ input₀ out₀ table words buffer input out : List ℕ) (turns : ℕ) (k : Kept) : Type 0 where
   pub lent : Lent table₀ words₀ buffer₀ out₀ table words buffer out
   pub input-size : length input ≡ length input₀

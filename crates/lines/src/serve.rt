@@ -83,7 +83,7 @@ fn finish(written: bool) {
     }
 }
 
-// All that the program reads comes through here: so many bytes at the front of `input`, and none at the end of input.
+// All that the program reads comes through here. The result is the number of bytes at the front of `input`; it is 0 at the end of input.
 fn read(input: &mut [u8]) -> usize
     ensures { λ r. ⌜ r ≤ length (now (input .exit)) ⌝ }
 {

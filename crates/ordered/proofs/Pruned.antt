@@ -54,7 +54,7 @@ module _ (Bad : ℕ → Type 0) (σ : ℕ → ℕ) where
         {ss ss′ : List Step} {m : ℕ} {t t′ : Tree} → Steps ss ss′ → Pruned t t′ → isDamaged t′ ≡ false
         → GoesAlike (way-to ss m t) (way-to ss′ m t′)
 
-  -- the same of all the ways of a call. Behind a way that breaks, the calls may part.
+  -- like that for all the ways of a call. Behind a way that breaks, the calls may part.
   data AllGoAlike : List Way → List Way → Type 0 where
     no-ways : AllGoAlike [] []
     one-way : {w v : Way} {ws vs : List Way} → GoesAlike w v → AllGoAlike ws vs → AllGoAlike (w ∷ ws) (v ∷ vs)

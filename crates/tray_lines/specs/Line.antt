@@ -1,5 +1,5 @@
 -- What one line means, from its bytes without the byte 10 that ends it: a seat, one tab and a word.
--- Document 01: "A number is 1 to 10 digits, no leading zero but for 0 itself, at most 4,294,967,295." The crate `lines` says the same of its own lines.
+-- Document 01: "A number is 1 to 10 digits, no leading zero but for 0 itself, at most 4,294,967,295." Crate `lines` reads numbers by the same rule.
 use Prim.Native.Nat.{ℕ, _+_, _*_, _-_}
 use mathlib.Core.Bool.{Bool, true, false, cond, not, _&&_}
 use mathlib.Core.List.{List, [], _∷_}

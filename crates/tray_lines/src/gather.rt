@@ -14,7 +14,7 @@ pub struct Source {
     pub left: u64,
 }
 
-// A line: so many of its bytes are held, at most 65, and the source behind it. Without `more` there was no line.
+// A line: the number of its bytes that are held, at most 65, and the source behind it. Without `more` there was no line.
 pub struct Gathered {
     pub source: Source,
     pub held: usize,
