@@ -1,55 +1,52 @@
 -- The number of agreeing bytes: how it goes on from byte to byte, and that it is the length of the part that `LeadingPart` asks
 -- for. Assumes nothing.
 use mathlib.Core.Path.{_≡_, refl}
-use mathlib.Core.Bool.{Bool, true, false}
+use mathlib.Core.Bool.{Bool, true, false, _&&_}
 use mathlib.Core.List.{List, [], _∷_}
 use mathlib.Core.Logic.{_⊎_, inl, inr, ⊎-elim}
-use Prim.Native.Nat.{ℕ, zero, suc, _≤_, _<_, min}
+use Prim.Native.Nat.{ℕ, zero, suc, _≤_, _<_, min, compare·suc-suc}
 use native.Mathlib.Omega.{arith}
-use borrow.Author.Tests.{leb-true, leb-false, eqb-true, eq-eqb, ne-eqb}
+use borrow.Author.Tests.{leb-false, ltb-true, ltb-false, le-leb, lt-leb, eqb-true, eq-eqb, ne-eqb}
 use lib.Dec.{leb, eqb}
-use lib.ListN.{length, getD, take, drop, drop-of-length-le}
-use lib.Seq.{drop-cons}
+use lib.ListN.{length, getD, take}
 use Rattle.capture.specs.Capture.{agreeing}
 
 either : (t : Bool) → (t ≡ true) ⊎ (t ≡ false)
 either true = inl refl
 either false = inr refl
 
-nothing-earlier : (new : List ℕ) → agreeing new [] ≡ 0
+-- One byte more agrees exactly where those before it do and the byte does.
+pub one-more : (new earlier : List ℕ) (n : ℕ) → n < min (length new) (length earlier) → leb (suc n) (agreeing new earlier) ≡ leb n (agreeing new earlier) && eqb (getD new n 0) (getD earlier n 0)
 unfolding agreeing
-nothing-earlier [] = refl
-nothing-earlier (b ∷ new) = refl
+one-more [] earlier n h = absurd (omega arith)
+one-more (b ∷ new) [] n h = absurd (omega arith)
+one-more (b ∷ new) (e ∷ earlier) zero h =
+    ⊎-elim (λ t. rw (t, le-leb 1 (suc (agreeing new earlier)) (omega arith), le-leb 0 (suc (agreeing new earlier)) (omega arith)))
+    (λ f. rw f)
+    (either (eqb b e))
+one-more (b ∷ new) (e ∷ earlier) (suc n) h =
+    ⊎-elim (λ t. rw t (rw (compare·suc-suc (suc n) (agreeing new earlier), compare·suc-suc n (agreeing new earlier)) (one-more new earlier n (omega arith))))
+    (λ f. rw f (rw (lt-leb (suc (suc n)) 0 (omega arith), lt-leb (suc n) 0 (omega arith))))
+    (either (eqb b e))
 
--- What agrees from byte n on: nothing where a capture ends there or the two bytes differ, else byte n and what agrees after it.
-module _ (new earlier : List ℕ) (n : ℕ) where
-  pub at-an-end : min (length new) (length earlier) ≤ n → agreeing (drop n new) (drop n earlier) ≡ 0
-  unfolding agreeing
-  at-an-end h =
-      ⊎-elim (λ t. let l : length new ≤ n = leb-true (length new) n t in rw (drop-of-length-le new l))
-      (λ f.
-      let l : length earlier ≤ n = omega (arith, leb-false (length new) n f) in
-      rw (drop-of-length-le earlier l) (nothing-earlier (drop n new)))
-      (either (leb (length new) n))
+module _ (new earlier : List ℕ) (n : ℕ) (within : n < min (length new) (length earlier)) where
+  pub at-a-difference : (getD new n 0 ≡ getD earlier n 0 → ⊥) → agreeing new earlier ≤ n
+  at-a-difference h =
+      ⊎-elim (λ t. ltb-false n (agreeing new earlier) (rw (one-more new earlier n within, ne-eqb (getD new n 0) (getD earlier n 0) h) (rw t)))
+      (λ f. omega (arith, leb-false n (agreeing new earlier) f))
+      (either (leb n (agreeing new earlier)))
 
-  module _ (within : n < min (length new) (length earlier)) where
-    parted : agreeing (drop n new) (drop n earlier) ≡ agreeing (getD new n 0 ∷ drop (suc n) new) (getD earlier n 0 ∷ drop (suc n) earlier)
-    parted = rw (drop-cons new n 0 (omega arith), drop-cons earlier n 0 (omega arith))
+  pub at-an-agreement : n ≤ agreeing new earlier → getD new n 0 ≡ getD earlier n 0 → n < agreeing new earlier
+  at-an-agreement so-far h =
+      ltb-true n (agreeing new earlier) (rw (one-more new earlier n within, le-leb n (agreeing new earlier) so-far, eq-eqb (getD new n 0) (getD earlier n 0) h))
 
-    pub at-a-difference : (getD new n 0 ≡ getD earlier n 0 → ⊥) → agreeing (drop n new) (drop n earlier) ≡ 0
-    unfolding agreeing
-    at-a-difference h = rw (parted, ne-eqb (getD new n 0) (getD earlier n 0) h)
-
-    pub at-an-agreement : getD new n 0 ≡ getD earlier n 0 → agreeing (drop n new) (drop n earlier) ≡ suc (agreeing (drop (suc n) new) (drop (suc n) earlier))
-    unfolding agreeing
-    at-an-agreement h = rw (parted, eq-eqb (getD new n 0) (getD earlier n 0) h)
-
-pub within-new : (new earlier : List ℕ) → agreeing new earlier ≤ length new
+-- No more bytes agree than either capture has.
+pub within-both : (new earlier : List ℕ) → agreeing new earlier ≤ min (length new) (length earlier)
 unfolding agreeing
-within-new [] earlier = omega arith
-within-new (b ∷ new) [] = omega arith
-within-new (b ∷ new) (e ∷ earlier) =
-    ⊎-elim (λ t. rw t (omega (arith, within-new new earlier))) (λ f. rw f (omega arith)) (either (eqb b e))
+within-both [] earlier = omega arith
+within-both (b ∷ new) [] = omega arith
+within-both (b ∷ new) (e ∷ earlier) =
+    ⊎-elim (λ t. rw t (omega (arith, within-both new earlier))) (λ f. rw f (omega arith)) (either (eqb b e))
 
 pub agree-so-far : (new earlier : List ℕ) → take (agreeing new earlier) new ≡ take (agreeing new earlier) earlier
 unfolding agreeing

@@ -11,13 +11,13 @@ use lib.Dec.{ltb, eqb}
 use lib.ListN.{length, take, length-take}
 use lib.Seq.{take-length, length-take-le}
 use Rattle.capture.specs.Capture.{agreeing, leading, LeadingPart, isStale}
-use Rattle.capture.proofs.Agreeing.{within-new, agree-so-far, agree-no-further}
+use Rattle.capture.proofs.Agreeing.{within-both, agree-so-far, agree-no-further}
 
 -- Any two captures have a part to return, and `leading` computes it.
 pub has-part : (new earlier : List ℕ) → LeadingPart new earlier (leading new earlier)
 unfolding leading
 has-part new earlier =
-    let l : length (take (agreeing new earlier) new) ≡ agreeing new earlier = length-take-le (agreeing new earlier) new (within-new new earlier) in
+    let l : length (take (agreeing new earlier) new) ≡ agreeing new earlier = length-take-le (agreeing new earlier) new (omega (arith, within-both new earlier)) in
     record {
       leads = rw l;
       agrees = rw l (agree-so-far new earlier);

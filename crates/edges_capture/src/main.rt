@@ -12,6 +12,48 @@ fn main() {
     compared(b"", b"chip");
     compared(b"chip", b"");
     compared(b"", b"");
+    at_blocks();
+}
+
+// Captures are compared by blocks of 64 bytes, so a block ends before byte 64: one byte more or less, and a difference at the first byte
+// of a block, at the last, in the second block, and in the bytes after it.
+fn at_blocks() {
+    compared(
+        b"0123456789abcdef0123456789abcdef0123456789abcdef0123456789abcde",
+        b"0123456789abcdef0123456789abcdef0123456789abcdef0123456789abcde",
+    );
+    compared(
+        b"0123456789abcdef0123456789abcdef0123456789abcdef0123456789abcdef",
+        b"0123456789abcdef0123456789abcdef0123456789abcdef0123456789abcdef",
+    );
+    compared(
+        b"0123456789abcdef0123456789abcdef0123456789abcdef0123456789abcdef",
+        b"0123456789abcdef0123456789abcdef0123456789abcdef0123456789abcdef!",
+    );
+    compared(
+        b"0123456789abcdef0123456789abcdef0123456789abcdef0123456789abcdef!",
+        b"0123456789abcdef0123456789abcdef0123456789abcdef0123456789abcdef",
+    );
+    compared(
+        b"0123456789abcdef0123456789abcdef0123456789abcdef0123456789abcdef",
+        b"?123456789abcdef0123456789abcdef0123456789abcdef0123456789abcdef",
+    );
+    compared(
+        b"0123456789abcdef0123456789abcdef0123456789abcdef0123456789abcdef!",
+        b"0123456789abcdef0123456789abcdef0123456789abcdef0123456789abcde?!",
+    );
+    compared(
+        b"0123456789abcdef0123456789abcdef0123456789abcdef0123456789abcdef0123456789abcdef0123456789abcdef0123456789abcdef0123456789abcdef!",
+        b"0123456789abcdef0123456789abcdef0123456789abcdef0123456789abcdef?123456789abcdef0123456789abcdef0123456789abcdef0123456789abcdef!",
+    );
+    compared(
+        b"0123456789abcdef0123456789abcdef0123456789abcdef0123456789abcdef0123456789abcdef0123456789abcdef0123456789abcdef0123456789abcdef!",
+        b"0123456789abcdef0123456789abcdef0123456789abcdef0123456789abcdef0123456789abcdef0123456789abcdef0123456789abcdef0123456789abcde?!",
+    );
+    compared(
+        b"0123456789abcdef0123456789abcdef0123456789abcdef0123456789abcdef0123456789abcdef0123456789abcdef0123456789abcdef0123456789abcdef!",
+        b"0123456789abcdef0123456789abcdef0123456789abcdef0123456789abcdef0123456789abcdef0123456789abcdef0123456789abcdef0123456789abcdef?",
+    );
 }
 
 fn compared(new: &[u8], earlier: &[u8]) {

@@ -1,27 +1,26 @@
--- `capture::count_agreeing` meets its contract. The loop's invariant: the number to return is the bytes passed and those that
--- agree after them. Assumes nothing.
-use Prim.Native.Nat.{_≤_, _+_, _-_, min}
+-- `capture::count_agreeing` meets its contract. The loop's invariant: the bytes passed agree. Assumes nothing.
+use Prim.Native.Nat.{_≤_, _-_, min}
 use native.Mathlib.Omega.{arith}
-use native.Mathlib.Numerals.{add-one}
 use mathlib.Core.Path.{_≡_}
 use mathlib.Core.Logic.{⊎-elim}
-use lib.ListN.{length, drop}
+use lib.ListN.{length}
 use Rattle.capture.specs.Capture.{agreeing}
-use Rattle.capture.proofs.Agreeing.{at-an-end, at-a-difference, at-an-agreement}
+use Rattle.capture.proofs.Agreeing.{within-both, at-a-difference, at-an-agreement}
 use Rattle.capture.proofs.count_agreeing.Statement.{statement}
 use Rattle.capture.proofs.count_agreeing.Tie as tie
 
 abbrev Inv-loop : tie.InvT-loop
 Inv-loop new earlier most n₀ n =
-    (n ≤ most)
-    × (most ≡ min (length new) (length earlier))
-    × (agreeing new earlier ≡ n + agreeing (drop n new) (drop n earlier))
+    (most ≡ min (length new) (length earlier)) × (n ≤ agreeing new earlier)
 
 abbrev μ-loop : tie.MeasureT-loop
 μ-loop new earlier most n₀ n = most - n
 
+agreeing-blocks-requires : tie.Need-agreeing-blocks-requires Inv-loop μ-loop
+agreeing-blocks-requires c κs = ⊎-elim (λ w. omega arith) (λ w. omega arith) (c .if1 .came)
+
 loop-holds : tie.Need-loop-holds Inv-loop μ-loop
-loop-holds c = ⊎-elim (λ w. omega arith) (λ w. omega arith) (c .if1 .came)
+loop-holds c = ⊎-elim (λ w. omega arith) (λ w. omega arith) (c .before .if1 .came)
 
 shared-slice-read-if2 : tie.Need-shared-slice-read-if2 Inv-loop μ-loop
 shared-slice-read-if2 c = omega arith
@@ -31,7 +30,7 @@ shared-slice-read-if2-2 c = omega arith
 
 returns : tie.Need-returns Inv-loop μ-loop
 returns c =
-    let a = c .before .before .before .before .before .before .args in
+    let a = c .before .before .before .before .before .before .before .before .before .args in
     omega (arith, at-a-difference (a .new .now) (a .earlier .now) (c .before .before .before .before .loop .n) (omega arith) (c .if2 .taken))
 
 add-n : tie.Need-add-n Inv-loop μ-loop
@@ -42,13 +41,14 @@ loop-less c = omega arith
 
 loop-again : tie.Need-loop-again Inv-loop μ-loop
 loop-again c =
-    let a = c .before .before .before .before .before .before .args in
-    rw add-one (omega (arith, at-an-agreement (a .new .now) (a .earlier .now) (c .before .before .before .before .loop .n) (omega arith) (c .if2 .left)))
+    let a = c .before .before .before .before .before .before .before .before .before .args in
+    let n = c .before .before .before .before .loop .n in
+    omega (arith, at-an-agreement (a .new .now) (a .earlier .now) n (omega arith) (omega arith) (c .if2 .left))
 
 returns-2 : tie.Need-returns-2 Inv-loop μ-loop
 returns-2 c =
-    let a = c .before .before .before .args in
-    omega (arith, at-an-end (a .new .now) (a .earlier .now) (c .before .loop .n) (omega arith))
+    let a = c .before .before .before .before .before .before .args in
+    omega (arith, within-both (a .new .now) (a .earlier .now))
 
 pub count-agreeing-spec : {M : Type 1} → statement M
 count-agreeing-spec =
@@ -56,6 +56,7 @@ count-agreeing-spec =
     (tie.spec
     Inv-loop
     μ-loop
+    agreeing-blocks-requires
     loop-holds
     shared-slice-read-if2
     shared-slice-read-if2-2

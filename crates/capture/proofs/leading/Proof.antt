@@ -3,7 +3,7 @@ use borrow.Author.Needs.{needs}
 use native.Mathlib.Omega.{arith}
 use native.Mathlib.Nat.{sub-zero}
 use Rattle.capture.specs.Capture.{leading}
-use Rattle.capture.proofs.Agreeing.{within-new}
+use Rattle.capture.proofs.Agreeing.{within-both}
 use Rattle.capture.proofs.Laws.{has-part}
 use Rattle.capture.proofs.leading.Statement.{statement}
 use Rattle.capture.proofs.leading.Tie as tie
@@ -20,7 +20,7 @@ part-result-start c = search needs
 part-result-end : tie.Need-part-result-end
 part-result-end c =
     let a = c .before .before .before .args in
-    omega (arith, within-new (a .new .now) (a .earlier .now))
+    omega (arith, within-both (a .new .now) (a .earlier .now))
 
 returns : tie.Need-returns
 unfolding leading
