@@ -1,8 +1,8 @@
 // The calls by value of crate `tray` on seat records that come as data: damaged ones too, which no sequence of samples leaves.
 //
-// A line is eleven numbers, parted by tabs: the length of a tray whose records are all alike, a seat, a sample (width, word, repetition cutoff,
-// proportion cutoff) and the record (last word, run, window's word, place, count). The reply to it is the answer number, both alarms and the seat's
-// record after the sample. Input and output are those of tests/model/vectors.py; no other lines come, so none is refused.
+// A line has eleven numbers, parted by tabs: the length of a tray whose records are all alike; a seat; a sample (width, word, repetition cutoff,
+// proportion cutoff); the record (last word, run, window's word, place, count). The reply has the answer number, both alarms and the seat's record
+// after the sample. Input and output are those of tests/model/vectors.py. No other input comes, so nothing is done about lines of another form.
 
 use libc::STDIN_FILENO;
 use libc::STDOUT_FILENO;
@@ -23,17 +23,17 @@ fn reply_to_lines(input: &[u8]) {
     let mut field: usize = 0;
     let mut i: usize = 0;
     while i < input.len() {
-        let b = input[i];
+        let byte = input[i];
         i += 1;
-        if b == b'\n' {
+        if byte == b'\n' {
             reply(numbers);
             field = 0;
             numbers[0] = 0;
-        } else if b == b'\t' {
+        } else if byte == b'\t' {
             field = (field + 1) % 11;
             numbers[field] = 0;
         } else {
-            numbers[field] = with_digit(numbers[field], b);
+            numbers[field] = with_digit(numbers[field], byte);
         }
     }
 }
@@ -44,11 +44,9 @@ fn with_digit(number: u32, digit: u8) -> u32 {
     (longer % 4294967296) as u32
 }
 
-// As `tray::take_sample` has it: a seat that is not in the tray has no record.
 fn reply(numbers: [u32; 11])
     requires { ⌜ length numbers ≡ 11 ⌝ }
 {
-    let seat = numbers[1] as usize;
     let sample = Sample {
         width: numbers[2],
         word: numbers[3],
@@ -62,9 +60,14 @@ fn reply(numbers: [u32; 11])
         place: numbers[9],
         count: numbers[10],
     };
-    if numbers[1] < numbers[0] {
-        print_verdict(record.verdict(seat, sample));
-        print_record(record.after(seat, sample));
+    reply_at(numbers[0], numbers[1], sample, record);
+}
+
+// As in `tray::take_sample`: a seat that is not in the tray has no record. The one of the line is then written as it came.
+fn reply_at(length: u32, seat: u32, sample: Sample, record: Seat) {
+    if seat < length {
+        print_verdict(record.verdict(seat as usize, sample));
+        print_record(record.after(seat as usize, sample));
     } else {
         print_verdict(tray::absent(sample));
         print_record(record);
