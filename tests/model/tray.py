@@ -1,6 +1,7 @@
 """Document 02 §6, health tests for a whole tray, from its words and the standard's.
 
     python3 tray.py W C1 C2 <samples >replies     the program: lines of seat, tab, word
+    python3 tray.py records <cases >replies       one sample on any record: see run_records
     python3 tray.py                               compares the parts below; prints 'ok'
 
 The standard's procedures run over the plain list of one seat's samples. The records
@@ -142,6 +143,31 @@ def run(data, width, c1, c2):
     return "".join(out).encode("ascii")
 
 
+# ---- any record ----
+
+# One sample for a seat of a tray of this length, whose records are all the one given.
+Case = namedtuple("Case", "length seat width word c1 c2 record")
+
+
+def answered(case):
+    """The reply, and the tray after it."""
+    tray = [case.record] * case.length
+    return sample(tray, *case[1:6]), tray
+
+
+def run_records(data):
+    """Lines of a case's eleven numbers, parted by tabs. The reply to each has the answer, both
+    alarms and the seat's record after it; for a seat that isn't in the tray, the one given."""
+    out = []
+    for line in split_lines(data):
+        given = [number(field) for field in line.split(b"\t")]
+        case = Case(*given[:6], Record(*given[6:]))
+        reply, tray = answered(case)
+        record = tray[case.seat] if case.seat < case.length else case.record
+        out.append("\t".join(str(part) for part in (*reply, *record)) + "\n")
+    return "".join(out).encode("ascii")
+
+
 # ---- the self-check ----
 
 def same(name, got, wanted):
@@ -233,8 +259,8 @@ def sequences():
         same(f"alarms {pair} met often", seen[pair] > 1000, True)
 
 
-def refusals():
-    """Every set of faults at once: the first in order is given, and nothing changes."""
+def fault_cases():
+    """Every set of faults at once, and the refusal that is wanted: the first in order."""
     order = [1, 3, 13, 14, 4]
     # For each, what is handed in without the fault and with it. A place is given by what it
     # is below the window's length.
@@ -247,15 +273,20 @@ def refusals():
         wanted = ([n for n, there in zip(order, faults) if there] + [0])[0]
         for width, (seat, length), cutoff, (left, count) in product(
                 widths[faults[0]], seats[faults[2]], cutoffs[faults[3]], windows[faults[4]]):
-            tray = [Record(0, 1, 0, window_length(width) - left, count)] * length
-            before = list(tray)
-            reply = sample(tray, seat, width, words[faults[1]](width), *cutoff)
-            same("refusal", reply[0], wanted)
-            if wanted != 0:
-                same("refused", (reply, tray), ((wanted, 0, 0), before))
+            record = Record(0, 1, 0, window_length(width) - left, count)
+            yield Case(length, seat, width, words[faults[1]](width), *cutoff, record), wanted
     # The window's length is that of the width handed in.
-    same("512 samples at W 2", sample([Record(0, 1, 0, 512, 1)], 0, 2, 0, 9, 9), (4, 0, 0))
-    same("512 samples at W 1", sample([Record(0, 1, 0, 512, 1)], 0, 1, 0, 9, 9), (0, 0, 0))
+    yield Case(1, 0, 2, 0, 9, 9, Record(0, 1, 0, 512, 1)), 4
+    yield Case(1, 0, 1, 0, 9, 9, Record(0, 1, 0, 512, 1)), 0
+
+
+def refusals():
+    """The refusal is the one that is wanted, and a refusal changes nothing."""
+    for case, wanted in fault_cases():
+        reply, tray = answered(case)
+        same(f"{case}", reply[0], wanted)
+        if wanted != 0:
+            same(f"{case}", (reply, tray), ((wanted, 0, 0), [case.record] * case.length))
 
 
 # A record, a word and cutoffs at W 8, what is answered and the record after it. Some of
@@ -278,11 +309,17 @@ RECORDS = [
 ]
 
 
-def records():
+def record_cases():
+    """The table's rows, and what is wanted of each."""
     for record, word, cutoffs, reply, after in RECORDS:
-        tray = [record]
-        same(f"{record} {word}", sample(tray, 0, 8, word, *cutoffs), reply)
-        same(f"{record} {word}", tray, [after])
+        yield Case(1, 0, 8, word, *cutoffs, record), (reply, after)
+
+
+def records():
+    for case, (reply, after) in record_cases():
+        same(f"{case}", answered(case), (reply, [after]))
+    data = b"3\t1\t8\t7\t2\t2\t7\t1\t7\t3\t0\n3\t3\t8\t7\t2\t2\t7\t1\t7\t3\t0\n"
+    same("lines", run_records(data), b"0\t1\t0\t7\t2\t7\t4\t1\n13\t0\t0\t7\t1\t7\t3\t0\n")
 
 
 def program():
@@ -304,6 +341,8 @@ if __name__ == "__main__":
         records()
         program()
         print("ok")
+    elif sys.argv[1:] == ["records"]:
+        sys.stdout.buffer.write(run_records(sys.stdin.buffer.read()))
     else:
         # Left open: what the program does without three numbers. Chosen: it says so and stops.
         given = [number(a.encode()) for a in sys.argv[1:]]

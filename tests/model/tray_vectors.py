@@ -151,6 +151,38 @@ def made_by(seed):
         yield name, (width, c1, c2), b"\n".join(made) + (b"\n" if ended else b"")
 
 
+# ---- records that come as data ----
+
+def near(g, *numbers):
+    """One of these or a number beside it, of 32 bits."""
+    return min(max(g.one_of(numbers) + g.one_of([-1, 0, 0, 1]), 0), tray.TOP)
+
+
+def any_record(g):
+    """A case whose record has each number drawn for itself, so that few are left by a sequence
+    of samples. Places are near the ends of both windows, cutoffs near the counts."""
+    width = g.one_of([1, 1, 2, 8, 31, 32])
+    word = g.one_of([0, 1, 2 ** width - 1, g.below(2 ** width)])
+    last, first = (g.one_of([word, word, word, 0, near(g, word), g.wild()]) for _ in range(2))
+    run = near(g, 1, 2, 9, tray.TOP)
+    place = near(g, 1, 3, 300, 511, 511, 1023, g.wild())
+    count = near(g, 1, 2, place, place // 2, place // 2, g.wild())
+    c1, c2 = (max(near(g, 2, n + 1, n + 1, tray.TOP), 2) for n in (run, count))
+    length = g.one_of([1, 64])
+    record = tray.Record(last, run, first, place, count)
+    return tray.Case(length, length - 1, width, word, c1, c2, record)
+
+
+def cases(seed):
+    """One sample on each of many records, damaged ones too: lines for tray.run_records."""
+    g = Dice(seed * 1000 + 500 + len(FILES))
+    made = [case for case, _ in tray.fault_cases()] + [case for case, _ in tray.record_cases()]
+    made += [any_record(g) for _ in range(800)]
+    # A program's words have 32 bits: at W 32 and above none is too wide.
+    return b"".join("\t".join(map(str, case[:6] + case.record)).encode() + b"\n"
+                    for case in made if case.word <= tray.TOP)
+
+
 def main(seed, outdir):
     os.makedirs(outdir, exist_ok=True)
     for name, arguments, data in made_by(seed):

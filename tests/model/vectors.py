@@ -328,6 +328,9 @@ def contents(seed):
         yield os.path.join(name, "args"), "".join(f"{a}\n" for a in arguments).encode()
         yield os.path.join(name, "stdin"), data
         yield os.path.join(name, "stdout"), tray.run(data, *arguments)
+    data = tray_vectors.cases(seed)
+    yield os.path.join("vectors_tray_seats", "stdin"), data
+    yield os.path.join("vectors_tray_seats", "stdout"), tray.run_records(data)
 
 
 def write(folder, seed):

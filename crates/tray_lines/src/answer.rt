@@ -49,7 +49,7 @@ fn sampled(tray: [Seat; 64], seat: usize, sample: Sample) -> Turn
 }
 
 // A line that is not two numbers is answer 9.
-pub fn answer_line(tray: [Seat; 64], line: Line, settings: Sample) -> Answered
+pub(crate) fn answer_line(tray: [Seat; 64], line: Line, settings: Sample) -> Answered
     requires { ⌜ length tray ≡ 64 ⌝ }
     ensures { λ r. ⌜ (length (r .tray) ≡ 64) × (r .tray ≡ trayOn tray line settings) × (r .text ≡ textOn tray line settings) ⌝ }
 {

@@ -51,7 +51,7 @@ fn passed(source: Source) -> Source
 }
 
 // A line above 64 bytes is answer 9 whatever it says, so its first 65 bytes are enough.
-pub fn next_line(input: &mut [u8], line: &mut [u8], source: Source) -> Gathered
+pub(crate) fn next_line(input: &mut [u8], line: &mut [u8], source: Source) -> Gathered
     requires { ⌜ (source .end ≤ length (now input)) × (length (now line) ≡ 65) ⌝ }
     ensures { λ r. ⌜ (r .held ≤ 65) × (r .source .end ≤ length (now (input .exit))) × (r .source .left ≤ source .left) ⌝ }
     ensures { λ r. ⌜ (r .more ≡ true → r .source .left < source .left) ⌝ }

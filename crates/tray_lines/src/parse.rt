@@ -16,7 +16,7 @@ pub enum Line {
     Unread,
 }
 
-pub fn read_line(line: &[u8]) -> Line
+pub(crate) fn read_line(line: &[u8]) -> Line
     ensures { λ r. ⌜ r ≡ lineOf (now (line .entry)) ⌝ }
 {
     if 64 < line.len() {
@@ -58,7 +58,7 @@ fn joined(seat: Number, word: Number) -> Line
 }
 
 // "A number is 1 to 10 digits, no leading zero but for 0 itself, at most 4,294,967,295."
-pub fn read_number(digits: &[u8]) -> Number
+pub(crate) fn read_number(digits: &[u8]) -> Number
     ensures { λ r. ⌜ r ≡ number (now (digits .entry)) ⌝ }
 {
     let n = digits.len();

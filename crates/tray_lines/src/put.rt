@@ -5,7 +5,7 @@ ghost use Prim.Native.Nat.{_+_, _≤_};
 ghost use lib.ListN.{length};
 
 // A reply line has at most 28 bytes. The place behind it is handed back.
-pub fn put_reply(out: &mut [u8], at: usize, line: u64, text: Text) -> usize
+pub(crate) fn put_reply(out: &mut [u8], at: usize, line: u64, text: Text) -> usize
     requires { ⌜ at + 32 ≤ length (now out) ⌝ }
     ensures { λ r. ⌜ r ≤ at + 32 ⌝ }
 {
