@@ -19,9 +19,9 @@ use Rattle.ordered.proofs.Parts.{All, all-append, If-such, last-such-one, last-
 use Rattle.pretree.specs.declared.Header.{Header}
 use Rattle.pretree.specs.declared.Row.{Row}
 use Rattle.pretree.specs.declared.Answer.the-variants.{Done, Damage, NoSuchWord}
-use Rattle.pretree.specs.declared.walk.Stage.{Stage}
-use Rattle.pretree.specs.declared.walk.Stage.the-variants.{On, AtNone, AtRow, AtDamage}
-use Rattle.pretree.specs.declared.walk.Walk.{Walk}
+use Rattle.pretree.specs.Walk.{Stage}
+use Rattle.pretree.specs.Walk.{On, AtNone, AtRow, AtDamage}
+use Rattle.pretree.specs.Walk.{Walk}
 use Rattle.pretree.specs.declared.erase.Hook.{Hook}
 use Rattle.pretree.specs.declared.erase.Hole.{Hole}
 use Rattle.pretree.specs.declared.erase.Move.{Move}

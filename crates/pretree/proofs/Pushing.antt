@@ -18,7 +18,7 @@ use Rattle.pretree.specs.declared.Entry.{Entry}
 use Rattle.pretree.specs.declared.Row.{Row}
 use Rattle.pretree.specs.Table.{capacity, rowAt, link, withKey}
 use Rattle.pretree.specs.Unfold.{judged, linked, unfolded}
-use Rattle.pretree.specs.Walk.{below, turnOf, seeking, seekTurn}
+use Rattle.pretree.specs.Walk.{below, seeking, seekTurn}
 use Rattle.pretree.specs.Add.{taking}
 use Rattle.pretree.specs.Push.{onward, takes-from, left-from, Rising}
 use Rattle.pretree.proofs.Unfolding.{is-damaged, is-row}
@@ -27,7 +27,7 @@ use Rattle.pretree.proofs.Seeking.{seek-says}
 use Rattle.pretree.proofs.Writing.{key-length, other-row}
 
 -- the turn of a push at a row is that of its key, sought past itself
-pub push-says : (key bits m : ℕ) (l r : Tree) → bits ≡ suc m → pushing m (record { key = key }) l r ≡ turnOf (seekTurn (key + 1) key key bits)
+pub push-says : (key bits m : ℕ) (l r : Tree) → bits ≡ suc m → pushing m (record { key = key }) l r ≡ (seekTurn (key + 1) key key bits)
 unfolding pushing seeking
 push-says key bits m l r e =
     let own : seeking (key + 1) key m (record { key = key }) l r ≡ pushing m (record { key = key }) l r = rw (lt-ltb key (key + 1) (omega arith)) in

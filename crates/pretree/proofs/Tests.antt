@@ -8,7 +8,7 @@ use borrow.Author.Tests.{eqb-true, eq-eqb, ne-eqb, le-leb, lt-leb}
 use Rattle.ordered.proofs.Ways.{and-true}
 use Rattle.ordered.specs.Word.{sideOf, right}
 use Rattle.pretree.specs.declared.Row.{Row}
-use Rattle.pretree.specs.declared.walk.Walk.{Walk}
+use Rattle.pretree.specs.Walk.{Walk}
 use Rattle.pretree.specs.Walk.{holds}
 use Rattle.pretree.specs.Unfold.{ends-there}
 

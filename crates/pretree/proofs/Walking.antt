@@ -17,14 +17,14 @@ use Rattle.ordered.specs.Reading.{right-left-aside}
 use Rattle.ordered.proofs.Parts.{first-of-assoc, first-of-no-such}
 use Rattle.pretree.specs.declared.Header.{Header}
 use Rattle.pretree.specs.declared.Row.{Row}
-use Rattle.pretree.specs.declared.walk.Stage.{Stage}
-use Rattle.pretree.specs.declared.walk.Stage.the-variants.{On, AtNone, AtRow, AtDamage}
-use Rattle.pretree.specs.declared.walk.Turn.{Turn}
-use Rattle.pretree.specs.declared.walk.Turn.the-variants.{Stop, Left, Right}
-use Rattle.pretree.specs.declared.walk.Walk.{Walk}
+use Rattle.pretree.specs.Walk.{Stage}
+use Rattle.pretree.specs.Walk.{On, AtNone, AtRow, AtDamage}
+use Rattle.ordered.specs.Way.{Turn}
+use Rattle.ordered.specs.Way.{stop, to}
+use Rattle.pretree.specs.Walk.{Walk}
 use Rattle.pretree.specs.Table.{capacity, rowAt, link}
 use Rattle.pretree.specs.Unfold.{judged, linked, unfolded, shown}
-use Rattle.pretree.specs.Walk.{isOn, started, startedAt, holds, ended, remembering, passed, turned, stageAt, met, turnOf, toward, treeAt, to-come, toCome, below, stepAt, remembered, Goes, Placed, Memory, Walking, Begun, standing, partStart}
+use Rattle.pretree.specs.Walk.{isOn, started, startedAt, holds, ended, remembering, passed, turned, stageAt, met, treeAt, to-come, toCome, below, stepAt, remembered, Goes, Placed, Memory, Walking, Begun, standing, partStart}
 use Rattle.pretree.proofs.Tests.{goes-right}
 use Rattle.pretree.proofs.Unfolding.{is-damaged, is-row, path-in-key, there}
 
@@ -138,7 +138,7 @@ module _ (rows : ℕ → Row) (width : ℕ) (whole : Way) (w : Walk) where
 
   turned-goes : (m : ℕ) (s : Side) (coming : Way) → w .bits ≡ suc m → suc m ≤ width
       → Goes rows width whole w (passing (stepAt rows (w .count) m (w .row) s) coming)
-      → Goes rows width whole (turned w (rows (w .row)) (toward s)) coming
+      → Goes rows width whole (turned w (rows (w .row)) (to s)) coming
   unfolding turned
   turned-goes m right coming e fits g =
       remembers m right coming e fits g w _ _ e refl refl (aside-with m right coming e fits g false (here-aside m right coming e fits g))
@@ -162,7 +162,7 @@ module _ (rows : ℕ → Row) (f : Rule) (m key bit l : ℕ) where
   comes v AtDamage e = rw e
 
 turned-comes : (rows : ℕ → Row) (f : Rule) (w : Walk) (m : ℕ) (s : Side) (r : Row) → w .bits ≡ suc m
-    → toCome rows f (turned w r (toward s))
+    → toCome rows f (turned w r (to s))
     ≡ led rows f (w .count) m (w .path * 2 + bitOf s) (suc (r .entry .key)) (link r s) (stageAt (w .count) (link r s))
 unfolding turned
 turned-comes rows f w m right r e = comes rows f m (r .entry .key) 1 (r .right) w (stageAt (w .count) (r .right)) e
@@ -234,8 +234,8 @@ module _ (rows : ℕ → Row) (f : Rule) (width : ℕ) (whole : Way) (w : Walk) 
         same-count = same-count;
       }
 
-  turned-after : (s : Side) → (w .bits ≡ 0 → ⊥) → Goes rows width whole (turned w here-row (toward s)) (toCome rows f (turned w here-row (toward s)))
-      → After (turned w here-row (toward s))
+  turned-after : (s : Side) → (w .bits ≡ 0 → ⊥) → Goes rows width whole (turned w here-row (to s)) (toCome rows f (turned w here-row (to s)))
+      → After (turned w here-row (to s))
   unfolding turned
   turned-after right some h = passed-after w 1 (here-row .right) refl refl refl (mem .aside-used) h
   turned-after left some h = go (eqb (here-row .right) 0) h
@@ -249,9 +249,9 @@ module _ (rows : ℕ → Row) (f : Rule) (width : ℕ) (whole : Way) (w : Walk) 
 
   -- what the rule says at the row, with m bits left below it
   abbrev Says : ℕ → Turn → Type 0
-  Says m t = f m (record { key = key }) (below rows (w .count) (suc m) (w .row) left) (below rows (w .count) (suc m) (w .row) right) ≡ turnOf t
+  Says m t = f m (record { key = key }) (below rows (w .count) (suc m) (w .row) left) (below rows (w .count) (suc m) (w .row) right) ≡ t
 
-  passes-by : (m : ℕ) (s : Side) → w .bits ≡ suc m → holds w here-row ≡ true → Says m (toward s) → After (turned w here-row (toward s))
+  passes-by : (m : ℕ) (s : Side) → w .bits ≡ suc m → holds w here-row ≡ true → Says m (to s) → After (turned w here-row (to s))
   passes-by m s e h says =
       let path-is : key / 2 ^ suc m ≡ w .path = rw (← e) (path-in-key (w .count) (w .bits) (w .path) (w .low) (w .row) here-row (judged-is true h)) in
       let on : way f (w .bits) (treeAt rows w) ≡ passing (stepAt rows (w .count) m (w .row) s) (onward rows f (w .count) m (w .row) s)
@@ -262,16 +262,16 @@ module _ (rows : ℕ → Row) (f : Rule) (width : ℕ) (whole : Way) (w : Walk) 
       ∙ sym (turned-comes rows f w m s here-row e))
       (turned-goes rows width whole w m s _ e (rw e at fits) (subst (λ (c : Way). Goes rows width whole w c) on g)))
     where
-      turn-says : (s : Side) → Says m (toward s)
+      turn-says : (s : Side) → Says m (to s)
           → f m (record { key = key }) (below rows (w .count) (suc m) (w .row) left) (below rows (w .count) (suc m) (w .row) right) ≡ to s
       turn-says left h = h
       turn-says right h = h
 
   by-turn : (m : ℕ) (t : Turn) → w .bits ≡ suc m → holds w here-row ≡ true → Says m t → After (turned w here-row t)
   unfolding turned
-  by-turn m Stop e h says = ends AtRow (rw (shows h, e) (stops-at f m (w .row) _ _ _ says)) (used, h, refl)
-  by-turn m Left e h says = passes-by m left e h says
-  by-turn m Right e h says = passes-by m right e h says
+  by-turn m stop e h says = ends AtRow (rw (shows h, e) (stops-at f m (w .row) _ _ _ says)) (used, h, refl)
+  by-turn m (to left) e h says = passes-by m left e h says
+  by-turn m (to right) e h says = passes-by m right e h says
 
   -- the row that the walk wants takes it on along the whole way
   pub meets : (t : Turn) → ((m : ℕ) → w .bits ≡ suc m → Says m t) → After (met w here-row t)
@@ -302,7 +302,7 @@ module _ (rows : ℕ → Row) (f : Rule) (width count : ℕ) (tree : Tree) (w : 
   -- a walk that is on its way is so after the row that it wants, if it makes the turn that its rule says
   pub keeps : (t : Turn)
       → ((m : ℕ) → w .bits ≡ suc m
-      → f m (record { key = rows (w .row) .entry .key }) (below rows count (suc m) (w .row) left) (below rows count (suc m) (w .row) right) ≡ turnOf t)
+      → f m (record { key = rows (w .row) .entry .key }) (below rows count (suc m) (w .row) left) (below rows count (suc m) (w .row) right) ≡ t)
       → Walking rows f width count tree (met w (rows (w .row)) t)
   keeps t says =
       let stage : w .stage ≡ On = is-on (w .stage) on in
@@ -370,9 +370,9 @@ falls w r t on = rw on (by-row (holds w r))
     by-link v bit l e some = fewer (v .bits) (isOn (stageAt (v .count) l)) e some
 
     by-turn-falls : (t : Turn) → (w .bits ≡ 0 → ⊥) → still (turned w r t) < w .bits + 1
-    by-turn-falls Stop some = omega arith
-    by-turn-falls Right some = by-link w 1 (r .right) refl some
-    by-turn-falls Left some = go (eqb (r .right) 0)
+    by-turn-falls stop some = omega arith
+    by-turn-falls (to right) some = by-link w 1 (r .right) refl some
+    by-turn-falls (to left) some = go (eqb (r .right) 0)
       where
         go : (b : Bool) → still (passed (if b then w else remembering w) (r .entry .key) 0 (r .left)) < w .bits + 1
         go true = by-link w 0 (r .left) refl some
@@ -407,9 +407,9 @@ unmoved-by w r t = by-row (holds w r)
         }
 
     by-turn-unmoved : (t : Turn) → (w .bits ≡ 0 → ⊥) → Unmoved w (turned w r t)
-    by-turn-unmoved Stop some = record { no-more = le-refl (w .bits); same = λ h. (refl, refl) }
-    by-turn-unmoved Right some = by-link w 1 (r .right) refl some
-    by-turn-unmoved Left some = go (eqb (r .right) 0)
+    by-turn-unmoved stop some = record { no-more = le-refl (w .bits); same = λ h. (refl, refl) }
+    by-turn-unmoved (to right) some = by-link w 1 (r .right) refl some
+    by-turn-unmoved (to left) some = go (eqb (r .right) 0)
       where
         go : (b : Bool) → Unmoved w (passed (if b then w else remembering w) (r .entry .key) 0 (r .left))
         go true = by-link w 0 (r .left) refl some
@@ -448,7 +448,7 @@ begins-there table f w b = begins (rowAt table) f (standing (rowAt table) w (w .
     all AtDamage going = sym (at-damage f (w .bits))
 
 -- a walk that stops at the row it meets has ended
-pub stop-ends : (w : Walk) (r : Row) → isOn (met w r Stop .stage) ≡ false
+pub stop-ends : (w : Walk) (r : Row) → isOn (met w r stop .stage) ≡ false
 unfolding met turned
 stop-ends w r = go (holds w r) (eqb (w .bits) 0)
   where

@@ -11,8 +11,8 @@ use Rattle.ordered.specs.Way.{Step, rows, broken}
 use Rattle.ordered.specs.Change.{Take, Erasing, above-end}
 use Rattle.pretree.specs.declared.Header.{Header}
 use Rattle.pretree.specs.declared.Row.{Row}
-use Rattle.pretree.specs.declared.walk.Stage.the-variants.{On}
-use Rattle.pretree.specs.declared.walk.Walk.{Walk}
+use Rattle.pretree.specs.Walk.{On}
+use Rattle.pretree.specs.Walk.{Walk}
 use Rattle.pretree.specs.declared.erase.Hook.{Hook}
 use Rattle.pretree.specs.declared.erase.Hole.{Hole}
 use Rattle.pretree.specs.declared.erase.Move.{Move}

@@ -12,8 +12,9 @@ use Rattle.pretree.specs.declared.Header.{Header}
 use Rattle.pretree.specs.declared.Answer.the-variants.{Done, Word, WrongHeader, WordTooWide, Damage, NoSuchWord}
 use Rattle.pretree.specs.declared.Reply.{Reply}
 use Rattle.pretree.specs.declared.Row.{Row}
-use Rattle.pretree.specs.declared.walk.Stage.{Stage}
-use Rattle.pretree.specs.declared.walk.Stage.the-variants.{On, AtNone, AtRow, AtDamage}
+use Rattle.pretree.specs.declared.leg.End.{End}
+use Rattle.pretree.specs.declared.leg.End as Ends
+use Rattle.pretree.specs.Walk.{Stage, On, AtNone, AtRow, AtDamage}
 use Rattle.pretree.specs.Reply.{wrong-header, too-wide, refused, answered}
 use Rattle.pretree.specs.Find.{saying}
 use Rattle.pretree.specs.Walk.{below}
@@ -38,6 +39,18 @@ word-by h key n On = answered h NoSuchWord n
 word-by h key n AtNone = answered h NoSuchWord n
 word-by h key n AtRow = answered h (Word key) n
 word-by h key n AtDamage = refused h Damage
+
+-- `has` of k where its way ended so, after the rows that it passed
+abbrev pub foundBy : Header → ℕ → ℕ → End → Reply
+foundBy h k n Ends.the-variants.None = answered h NoSuchWord n
+foundBy h k n (Ends.the-variants.Row r) = if eqb (r .entry .key) k then answered h Done (n + 1) else answered h NoSuchWord (n + 1)
+foundBy h k n Ends.the-variants.Damage = refused h Damage
+
+-- the word at which a leg ended, after the rows that were read before its last
+abbrev pub wordBy : Header → ℕ → End → Reply
+wordBy h n Ends.the-variants.None = answered h NoSuchWord n
+wordBy h n (Ends.the-variants.Row r) = answered h (Word (r .entry .key)) (n + 1)
+wordBy h n Ends.the-variants.Damage = refused h Damage
 
 -- what is known where a second way begins, after so many rows
 pub record Asked (h : Header) (table : List ℕ) (n : ℕ) : Type 0 where

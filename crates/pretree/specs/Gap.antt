@@ -9,8 +9,8 @@ use Rattle.pretree.specs.declared.Answer.the-variants.{Done, Word, Dista
 use Rattle.pretree.specs.declared.Reply.{Reply}
 use Rattle.pretree.specs.declared.gap.Neighbour.{Neighbour}
 use Rattle.pretree.specs.declared.gap.Neighbour.the-variants.{At, Nowhere, Unknown}
-use Rattle.pretree.specs.declared.walk.Stage.{Stage}
-use Rattle.pretree.specs.declared.walk.Stage.the-variants.{On, AtNone, AtRow, AtDamage}
+use Rattle.pretree.specs.Walk.{Stage}
+use Rattle.pretree.specs.Walk.{On, AtNone, AtRow, AtDamage}
 use Rattle.pretree.specs.Reply.{refused, answered}
 use Rattle.pretree.specs.Find.{prevReply, nextReply}
 

@@ -11,8 +11,9 @@ pub mod Whole
 pub mod Call
 pub mod Part
 pub mod Walk
-pub mod Skim
 pub mod Resume
+pub mod Leg
+pub mod Seek
 pub mod Push
 pub mod Found
 pub mod Gap

@@ -9,46 +9,42 @@ use Rattle.ordered.specs.Such.{if_then_else_}
 use Rattle.ordered.specs.Word.{Side, bitOf}
 use Rattle.ordered.specs.Tree.{Tree, intact, size}
 use Rattle.pretree.specs.declared.Row.{Row}
-use Rattle.pretree.specs.declared.whole.Place.{Place}
-use Rattle.pretree.specs.declared.whole.Rest.{Rest}
-use Rattle.pretree.specs.declared.whole.Rest.the-variants.{Rows, Damaged}
 use Rattle.pretree.specs.Table.{capacity, link}
 use Rattle.pretree.specs.Unfold.{ends-there, linked, unfolded}
 
-abbrev pub root : ℕ → Place
+-- where a row stands: its number, the bits left there, the bits of the path to it, and the least key that is no damage there
+pub record Spot : Type 0 where
+  pub row : ℕ
+  pub bits : ℕ
+  pub path : ℕ
+  pub low : ℕ
+
+abbrev pub root : ℕ → Spot
 root width = record { row = 0; bits = width; path = 0; low = 0 }
 
 -- where the link on side s of the row r leads
-abbrev pub below : Place → Row → Side → Place
+abbrev pub below : Spot → Row → Side → Spot
 below p r s = record { row = link r s; bits = pred (p .bits); path = p .path * 2 + bitOf s; low = suc (r .entry .key) }
 
--- a bit is left that decides, the path is one of 32 bits, and the side is 0 or 1
-pub record Turns (p : Place) (side : ℕ) : Type 0 where
-  pub inner : 0 < p .bits
-  pub short : p .path < 2 ^ 32
-  pub either : side < 2
-
 -- `judged` but for the row's number
-abbrev pub holds : Place → Row → Bool
+abbrev pub holds : Spot → Row → Bool
 holds p r = leb (p .low) (r .entry .key) && (eqb (r .entry .key / 2 ^ p .bits) (p .path) && ends-there (p .bits) r)
 
 -- the part of the row at a place
-abbrev pub rowPart : (ℕ → Row) → ℕ → Place → Tree
+abbrev pub rowPart : (ℕ → Row) → ℕ → Spot → Tree
 rowPart rows n p = unfolded rows n (p .bits) (p .path) (p .low) (p .row)
 
 -- the part to which a link there leads
-abbrev pub linkPart : (ℕ → Row) → ℕ → Place → Tree
+abbrev pub linkPart : (ℕ → Row) → ℕ → Spot → Tree
 linkPart rows n p = linked (unfolded rows n (p .bits) (p .path) (p .low)) (p .row)
 
 -- the part on side s of the row r
-abbrev pub sidePart : (ℕ → Row) → ℕ → Place → Row → Side → Tree
+abbrev pub sidePart : (ℕ → Row) → ℕ → Spot → Row → Side → Tree
 sidePart rows n p r s = linkPart rows n (below p r s)
 
--- where `rest` rows may still be met: how many after the rows of a part, if it has no damage and no more rows than that
-unfoldable pub counted : Tree → ℕ → Rest
-counted t rest =
-    if intact t && leb (size t) rest then Rows (rest - size t)
-    else Damaged
+-- one more than the rows of a part, if it has no damage: as many as it has empty links
+unfoldable pub counted : Tree → ℕ
+counted t = if intact t then suc (size t) else 0
 
 -- a part of a table that has room in the buffer from `next` on
 pub record Listable (table : List ℕ) (count : ℕ) (t : Tree) (buffer : List ℕ) (next : ℕ) : Type 0 where

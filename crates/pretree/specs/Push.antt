@@ -11,7 +11,7 @@ use Rattle.pretree.specs.declared.Header.{Header}
 use Rattle.pretree.specs.declared.Entry.{Entry}
 use Rattle.pretree.specs.declared.Row.{Row}
 use Rattle.pretree.specs.declared.Answer.the-variants.{Done, Damage, Full}
-use Rattle.pretree.specs.declared.walk.Walk.{Walk}
+use Rattle.pretree.specs.Walk.{Walk}
 use Rattle.pretree.specs.Table.{capacity, rowAt, link, withRow, hooked}
 use Rattle.pretree.specs.Reply.{refused, answered}
 use Rattle.pretree.specs.Walk.{rowsRead}

@@ -9,6 +9,10 @@ use lib.Seq.{sets}
 use Rattle.ordered.specs.Word.{Side, left, right, bitOf}
 use Rattle.pretree.specs.declared.Row.{Row}
 
+-- key, left link, right link
+abbrev pub rowWords : ℕ
+rowWords = 3
+
 unfoldable pub capacity : List ℕ → ℕ
 capacity table = min (length table / 3) 65535
 
