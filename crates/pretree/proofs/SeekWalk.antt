@@ -359,32 +359,33 @@ module _ (table : List ℕ) (h : Header) (k : ℕ) where
             };
       }
 
-  module _ (s : Seek) (g : Goes s) (on : goesOn (rowAt table) (h .count) k s ≡ true) where
-    abbrev w : Walk
-    w = g .walk
-
-    abbrev key-here : ℕ
-    key-here = rowAt table (s .row) .entry .key
-
+  -- what is known where the seek goes on: its row is in use and has a lesser key, the walk goes on too, and the mask falls
+  pub record Further (s : Seek) : Type 0 where
     pub used : s .row < h .count
-    used = ltb-true _ _ (both (ltb (s .row) (h .count)) _ on .0)
+    pub less : rowAt table (s .row) .entry .key < k
+    pub goes : Goes (gone (rowAt table) k s)
+    pub falls : s .mask / 2 < s .mask
 
-    pub passing : Passes s k key-here
-    passing = passes-so s k key-here (both (ltb (s .row) (h .count)) _ on .1)
+  pub further : (s : Seek) → Goes s → goesOn (rowAt table) (h .count) k s ≡ true → Further s
+  further s g on = record { used = used; less = passing .less; goes = subst Past (sym (g .shows .row)) past; falls = halves }
+    where
+      Past : ℕ → Type 0
+      Past i = Goes (Seeks.passed s k (rowAt table i .entry .key) (link (rowAt table i) (sideOf (turn s))) (rowAt table i .right))
 
-    used-there : w .row < h .count
-    used-there = rw (← g .shows .row) used
+      used : s .row < h .count
+      used = ltb-true _ _ (both (ltb (s .row) (h .count)) _ on .0)
 
-    passing-there : Passes s k (rowAt table (w .row) .entry .key)
-    passing-there = rw (← g .shows .row) passing
+      passing : Passes s k (rowAt table (s .row) .entry .key)
+      passing = passes-so s k _ (both (ltb (s .row) (h .count)) _ on .1)
 
-    pub goes-further : Goes (gone (rowAt table) k s)
-    goes-further =
-        let on-there = passes-on (rowAt table) k s w (g .shows) h (shown h table) (g .walking) used-there passing-there in
-        rw (g .shows .row) (record { walk = on-walk (rowAt table) k s w (g .shows); walking = on-there .0; shows = on-there .1 })
+      past : Past (g .walk .row)
+      past =
+          let used-there : g .walk .row < h .count = rw (← g .shows .row) used in
+          let passing-there : Passes s k (rowAt table (g .walk .row) .entry .key) = rw (← g .shows .row) passing in
+          let there = passes-on (rowAt table) k s (g .walk) (g .shows) h (shown h table) (g .walking) used-there passing-there in
+          record { walk = on-walk (rowAt table) k s (g .walk) (g .shows); walking = there .0; shows = there .1 }
 
-    -- the mask falls
-    pub halves : s .mask / 2 < s .mask
-    halves =
-        let some : k % 2 ^ w .bits < 2 ^ w .bits = mod-lt k (pow-pos (w .bits)) in
-        omega (arith, passing .in-tail, g .shows .tail, g .shows .mask)
+      halves : s .mask / 2 < s .mask
+      halves =
+          let some : k % 2 ^ g .walk .bits < 2 ^ g .walk .bits = mod-lt k (pow-pos (g .walk .bits)) in
+          omega (arith, passing .in-tail, g .shows .tail, g .shows .mask)

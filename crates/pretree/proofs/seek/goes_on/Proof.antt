@@ -4,6 +4,7 @@ use mathlib.Core.Path.{_≡_, _∙_}
 use borrow.Author.Needs.{needs}
 use borrow.Author.Tests.{lt-ltb, le-ltb}
 use native.Mathlib.Omega.{arith}
+use mir.Facts.{fits-bits}
 use Rattle.pretree.specs.Table.{capacity, rowAt}
 use Rattle.pretree.proofs.seek.goes_on.Statement.{statement}
 use Rattle.pretree.proofs.seek.goes_on.Tie as tie
@@ -12,7 +13,8 @@ returns : tie.Need-returns
 returns c = simp (le-ltb _ _ (c .if1 .taken))
 
 mul-key : tie.Need-mul-key
-mul-key c = search needs
+unfolding capacity
+mul-key c = fits-bits 64 tt (omega arith)
 
 shared-slice-read-key : tie.Need-shared-slice-read-key
 unfolding capacity
@@ -24,9 +26,9 @@ passes-requires c κs = search needs
 returns-2 : tie.Need-returns-2
 unfolding rowAt
 returns-2 c =
-    let s = c .before .before .before .before .args .s in
+    let s = c .before .before .before .before .before .args .s in
     let begins : s .at ≡ 3 * s .row = search needs in
-    simp (lt-ltb _ _ (c .before .before .before .if1 .left)) (c .passes .ensures ∙ rw begins)
+    simp (lt-ltb _ _ (c .before .before .if1 .left)) (c .passes .ensures ∙ rw begins)
 
 pub goes-on-spec : {M : Type 1} → statement M
 goes-on-spec =

@@ -1,6 +1,6 @@
 -- The key and the links stand in the table, since the row does.
 use Prim.Native.Nat.{ℕ, _*_, _/_, _≤_, _<_, suc-le-suc}
-use mathlib.Core.Path.{_≡_, _∙_}
+use mathlib.Core.Path.{_≡_}
 use mathlib.Core.Bool.{Bool, true, false}
 use native.Mathlib.Omega.{arith}
 use lib.Dec.{ltb}
@@ -77,8 +77,7 @@ returns c =
     let q = c .before .before .before in
     let a = q .before .before .before .args in
     let begins : a .s .at ≡ 3 * a .s .row = search needs in
-    c .passed .ensures
-    ∙ rw (begins, link-read (a .table .now) (a .s .row) (q .turn .result) (suc-le-suc (side q)), q .turn .ensures)
+    rw (c .passed .ensures, begins, link-read (a .table .now) (a .s .row) (q .turn .result) (suc-le-suc (side q)), q .turn .ensures)
 
 pub gone-spec : {M : Type 1} → statement M
 gone-spec =

@@ -13,7 +13,7 @@ use Rattle.pretree.specs.Unfold.{shown}
 use Rattle.pretree.specs.Seek.{begun, bitsLeft, goesOn, OnSeek}
 use Rattle.pretree.proofs.Checks.{right-header, narrow}
 use Rattle.pretree.proofs.Between.{bits-are}
-use Rattle.pretree.proofs.SeekWalk.{begins, used, passing, goes-further, halves}
+use Rattle.pretree.proofs.SeekWalk.{begins, Further, further}
 use Rattle.pretree.proofs.seek.sought.Statement.{statement}
 use Rattle.pretree.proofs.seek.sought.Tie as tie
 
@@ -35,50 +35,45 @@ from-start table h k s few e g = rw (e, bits-are (h .width) few) at g
 start-requires : tie.Need-start-requires Inv-loop μ-loop
 start-requires c κs = right-header (c .before .args .h) (c .before .args .table .now) (search needs) .at-most-32
 
+cast-count : tie.Need-cast-count Inv-loop μ-loop
+cast-count c = search needs
+
 loop-holds : tie.Need-loop-holds Inv-loop μ-loop
 loop-holds c =
-    let a = c .before .before .args in
+    let a = c .before .before .before .args in
     let fine = right-header (a .h) (a .table .now) (search needs) in
-    rw (c .start .ensures, bits-are (a .h .width) (fine .at-most-32))
+    rw (c .before .start .ensures, bits-are (a .h .width) (fine .at-most-32))
     (fine .has-room, begins (a .table .now) (a .h) (a .word) (search needs) (narrow (a .h) (a .word) (search needs)))
 
 goes-on-requires : tie.Need-goes-on-requires Inv-loop μ-loop
-goes-on-requires c κs = (c .loop .inv .0, omega (arith, c .loop .inv .1 .shows .between), c .loop .inv .1 .shows .at)
+goes-on-requires c κs = (c .loop .inv .0, (omega (arith, c .loop .inv .1 .shows .between), c .loop .inv .1 .shows .at))
+
+-- what is known where the loop goes on
+goes-further : (c : tie.Then1 Inv-loop μ-loop)
+    → let a = c .before .before .before .before .before .before .args in
+    Further (a .table .now) (header (c .before .before .before .before .start .result) (a .h .count)) (a .word) (c .before .before .loop .s)
+goes-further c = further _ _ _ _ (c .before .before .loop .inv .1) (sym (c .before .goes-on .ensures) ∙ c .if1 .taken)
 
 gone-requires : tie.Need-gone-requires Inv-loop μ-loop
 gone-requires c κs =
     let l = c .before .before .loop in
-    let a = c .before .before .before .before .before .args in
-    let on = (sym (c .before .goes-on .ensures) ∙ c .if1 .taken) in (
-      lt-of-lt-of-le (used (a .table .now) (header (c .before .before .before .start .result) (a .h .count)) (a .word) (l .s) (l .inv .1) on) (l .inv .0),
-      l .inv .1 .shows .at,
-      passing (a .table .now) (header (c .before .before .before .start .result) (a .h .count)) (a .word) (l .s) (l .inv .1) on .less,
-    )
+    let f = goes-further c in
+    (lt-of-lt-of-le (f .used) (l .inv .0), (l .inv .1 .shows .at, f .less))
 
 loop-less : tie.Need-loop-less Inv-loop μ-loop
-loop-less c =
-    let l = c .before .before .before .loop in
-    let a = c .before .before .before .before .before .before .args in
-    rw (c .gone .ensures)
-    (halves (a .table .now) (header (c .before .before .before .before .start .result) (a .h .count)) (a .word) (l .s) (l .inv .1) (sym (c .before .before .goes-on .ensures) ∙ c .before .if1 .taken))
+loop-less c = rw (c .gone .ensures) (goes-further (c .before) .falls)
 
 loop-again : tie.Need-loop-again Inv-loop μ-loop
-loop-again c =
-    let l = c .before .before .before .loop in
-    let a = c .before .before .before .before .before .before .args in (
-      l .inv .0,
-      rw (c .gone .ensures)
-          (goes-further (a .table .now) (header (c .before .before .before .before .start .result) (a .h .count)) (a .word) (l .s) (l .inv .1) (sym (c .before .before .goes-on .ensures) ∙ c .before .if1 .taken)),
-    )
+loop-again c = (c .before .before .before .loop .inv .0, rw (c .gone .ensures) (goes-further (c .before) .goes))
 
 returns : tie.Need-returns Inv-loop μ-loop
 returns c =
     let l = c .before .before .loop in
-    let a = c .before .before .before .before .before .args in
+    let a = c .before .before .before .before .before .before .args in
     record {
       on =
           from-start (a .table .now) (a .h) (a .word) (l .s) (right-header (a .h) (a .table .now) (search needs) .at-most-32)
-          (c .before .before .before .start .ensures) (l .inv .1);
+          (c .before .before .before .before .start .ensures) (l .inv .1);
       stopped = sym (c .before .goes-on .ensures) ∙ c .if1 .left;
     }
 
@@ -89,6 +84,7 @@ sought-spec =
     Inv-loop
     μ-loop
     start-requires
+    cast-count
     loop-holds
     goes-on-requires
     gone-requires
