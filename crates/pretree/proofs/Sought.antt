@@ -3,7 +3,7 @@ use Prim.Native.Nat.{ℕ, _+_, _*_, _-_, _/_, _%_, _^_, _≤_, _<_}
 use mathlib.Core.Path.{_≡_, refl, sym, ap, _∙_, subst}
 use mathlib.Core.Bool.{Bool, true, false}
 use mathlib.Core.List.{List}
-use native.Mathlib.Nat.{le-trans, lt-of-lt-of-le, mod-lt, mod-le, mul-le-mul-right, sub-add-cancel}
+use native.Mathlib.Nat.{le-trans, lt-of-lt-of-le, mod-lt, mod-le, mul-le-mul-right}
 use native.Mathlib.Omega.{arith}
 use lib.Dec.{ltb}
 use lib.Pow.{split, pow-pos, pow-mono, shr-lt, le-ones, ones-split}
@@ -12,7 +12,6 @@ use Rattle.ordered.specs.Such.{if_then_else_}
 use Rattle.pretree.specs.declared.Header.{Header}
 use Rattle.pretree.specs.declared.leg.End.{End}
 use Rattle.pretree.specs.declared.leg.End.the-variants.{Damage}
-use Rattle.pretree.specs.declared.leg.Place.{Place}
 use Rattle.pretree.specs.declared.seek.Seek.{Seek}
 use Rattle.pretree.specs.Table.{rowAt}
 use Rattle.pretree.specs.Unfold.{shown}

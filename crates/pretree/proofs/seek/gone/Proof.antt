@@ -1,5 +1,5 @@
 -- The key and the links stand in the table, since the row does.
-use Prim.Native.Nat.{ℕ, _*_, _/_, _≤_, _<_, suc-le-suc}
+use Prim.Native.Nat.{_*_, _/_, _≤_, suc-le-suc}
 use mathlib.Core.Path.{_≡_}
 use mathlib.Core.Bool.{Bool, true, false}
 use native.Mathlib.Omega.{arith}

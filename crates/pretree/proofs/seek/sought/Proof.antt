@@ -1,7 +1,6 @@
 -- The loop keeps a walk of the word's way beside the seek; the number that falls is the mask.
-use Prim.Native.Nat.{ℕ, _≤_, _<_}
+use Prim.Native.Nat.{ℕ, _≤_}
 use mathlib.Core.Path.{_≡_, sym, _∙_}
-use mathlib.Core.Bool.{true}
 use mathlib.Core.List.{List}
 use native.Mathlib.Nat.{lt-of-lt-of-le}
 use native.Mathlib.Omega.{arith}
@@ -10,7 +9,7 @@ use Rattle.pretree.specs.declared.Header.{Header}
 use Rattle.pretree.specs.declared.seek.Seek.{Seek}
 use Rattle.pretree.specs.Table.{capacity, rowAt}
 use Rattle.pretree.specs.Unfold.{shown}
-use Rattle.pretree.specs.Seek.{begun, bitsLeft, goesOn, OnSeek}
+use Rattle.pretree.specs.Seek.{begun, bitsLeft, OnSeek}
 use Rattle.pretree.proofs.Checks.{right-header, narrow}
 use Rattle.pretree.proofs.Between.{bits-are}
 use Rattle.pretree.proofs.SeekWalk.{begins, Further, further}

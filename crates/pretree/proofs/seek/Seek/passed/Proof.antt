@@ -1,4 +1,3 @@
-use mathlib.Core.Path.{refl}
 use borrow.Author.Needs.{needs}
 use Rattle.pretree.proofs.seek.Seek.passed.Statement.{statement}
 use Rattle.pretree.proofs.seek.Seek.passed.Tie as tie
