@@ -2,9 +2,9 @@
 use Prim.Native.Nat.{ℕ, zero, suc, _+_, _*_, _-_, _/_, _^_, _≤_, _<_}
 use mathlib.Core.Path.{_≡_, refl}
 use mathlib.Core.Bool.{Bool, true, false, not, _&&_, _||_}
-use native.Mathlib.Nat.{div-eq-of-lt, pow-suc, not-le-of-lt}
+use native.Mathlib.Nat.{div-eq-of-lt, pow-suc}
 use native.Mathlib.Omega.{arith}
-use lib.Bits.{bitXor, bitAnd, xor-shr, xor-self, xor-add-and, and-le-l, and-le-r}
+use lib.Bits.{bitXor, xor-shr, xor-self, xor-add-and, and-le-l, and-le-r}
 use lib.Dec.{leb, eqb}
 use lib.Pow.{pow-pos, shl-shr, suc-ones, le-ones, lt-of-le-ones}
 use borrow.Author.Tests.{le-leb, lt-leb, ne-eqb, eqb-true, eqb-false}
