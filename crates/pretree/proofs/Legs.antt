@@ -1,5 +1,5 @@
 -- A leg goes with a walk by its rule: it passes a row as the walk does, and where it stops the walk ends.
-use Prim.Native.Nat.{ℕ, zero, suc, pred, _-_, _/_, _^_, _≤_, _<_}
+use Prim.Native.Nat.{ℕ, zero, suc, pred, _+_, _-_, _/_, _^_, _≤_, _<_}
 use mathlib.Core.Path.{_≡_, refl, sym, ap, _∙_, subst}
 use mathlib.Core.Bool.{Bool, true, false, not, _&&_, _||_, true≢false}
 use native.Mathlib.Nat.{suc-ne-zero, pos-of-ne-zero, not-suc-le-zero}
@@ -41,6 +41,11 @@ module _ (rows : ℕ → Rows.Row) (f : Rule) (count : ℕ) (stageOf : ℕ → �
       let u : LegWalk rows f count stageOf (v .walk) s = next (v .walk) (v .on) (v .stage) in
       record { walk = u .walk; on = u .on; goes-on = λ width whole g. u .goes-on width whole (v .goes-on width whole g); stage = u .stage }
 
+-- a leg that has gone on from one that might begin has room for the words below it
+pub has-room : (rows : ℕ → Rows.Row) (f : Rule) (count : ℕ) (stageOf : ℕ → ℕ → Stage) (l r : Leg) → BegunLeg count stageOf l → Follows rows f count stageOf l r
+    → r .at .path + r .at .mask < 2 ^ 32
+has-room rows f count stageOf l r b follows = follows (b .walk) (b .on) (b .stage) .on .stands .room
+
 -- the leg past a row, by its link on a side
 abbrev pub legPast : Leg → Rows.Row → Side → Leg
 legPast l r s = record { at = belowPlace (l .at) r s; above = l .at .row }
@@ -50,6 +55,10 @@ pub record Passing (rows : ℕ → Rows.Row) (count : ℕ) (p : Place) : Type 0 
   pub used : p .row < count
   pub judged : judges p (rows (p .row)) ≡ true
   pub bits-left : 0 < p .mask
+
+-- so the mask below is less
+pub halves : (rows : ℕ → Rows.Row) (count : ℕ) (p : Place) → Passing rows count p → p .mask / 2 < p .mask
+halves rows count p passing = omega (arith, passing .bits-left)
 
 -- what a walk does at a row
 module _ (w : Walk) (r : Rows.Row) where
