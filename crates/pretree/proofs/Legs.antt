@@ -1,16 +1,14 @@
 -- A leg goes with a walk by its rule: it passes a row as the walk does, and where it stops the walk ends.
-use Prim.Native.Nat.{ℕ, zero, suc, pred, _+_, _-_, _/_, _^_, _≤_, _<_}
+use Prim.Native.Nat.{ℕ, zero, suc, pred, _+_, _-_, _/_, _^_, _<_}
 use mathlib.Core.Path.{_≡_, refl, sym, ap, _∙_, subst}
 use mathlib.Core.Bool.{Bool, true, false, not, _&&_, _||_, true≢false}
-use native.Mathlib.Nat.{suc-ne-zero, pos-of-ne-zero, not-suc-le-zero}
+use native.Mathlib.Nat.{suc-ne-zero, pos-of-ne-zero}
 use native.Mathlib.Omega.{arith}
 use lib.Bits.{bitXor, bitAnd, and-mask}
 use lib.Dec.{ltb, leb, eqb}
-use lib.Pow.{pow-pos}
 use borrow.Author.Tests.{lt-ltb, ne-eqb, ltb-true, eqb-true, eqb-false}
 use Rattle.ordered.specs.Such.{if_then_else_}
-use Rattle.ordered.specs.Word.{Side, left, right, other, sideOf, bitOf, side}
-use Rattle.ordered.specs.Tree.{Tree}
+use Rattle.ordered.specs.Word.{Side, left, right, sideOf, bitOf, side}
 use Rattle.ordered.specs.Way.{Rule, Turn, stop, to, down, pushing}
 use Rattle.ordered.proofs.Ways.{and-true}
 use Rattle.pretree.specs.declared.Row as Rows
@@ -19,10 +17,10 @@ use Rattle.pretree.specs.declared.leg.End.the-variants.{None, Row, Damag
 use Rattle.pretree.specs.declared.leg.Place.{Place}
 use Rattle.pretree.specs.declared.leg.Leg.{Leg}
 use Rattle.pretree.specs.Table.{link}
-use Rattle.pretree.specs.Walk.{Walk, Stage, On, AtNone, AtRow, AtDamage, isOn, holds, ended, remembering, passed, turned, stageAt, met, below, downTurn}
+use Rattle.pretree.specs.Walk.{Walk, Stage, On, AtRow, AtDamage, isOn, holds, ended, remembering, passed, turned, stageAt, met, below, downTurn}
 use Rattle.pretree.specs.Leg.{judges, belowPlace, rowEnd, linkEnd, EndsSo, Stands, OnLeg, GoesOn, passesDown, firstSide, passesPush, ownSide, stageHere, BegunLeg, LegWalk, LegGone, LegEnds}
 use Rattle.pretree.proofs.Between.{turns-so}
-use Rattle.pretree.proofs.Places.{judges-so, below-stands}
+use Rattle.pretree.proofs.Places.{judges-so, below-stands, inner}
 use Rattle.pretree.proofs.Resuming.{keeps-on}
 use Rattle.pretree.proofs.Falling.{down-says}
 
@@ -74,9 +72,9 @@ module _ (w : Walk) (r : Rows.Row) where
       go true = refl
       go false = refl
 
-  stops-below : (t : Turn) → holds w r ≡ true → w .bits ≡ 0 → met w r t ≡ ended w AtRow (r .entry .key)
+  stops-at-depth : (t : Turn) → holds w r ≡ true → w .bits ≡ 0 → met w r t ≡ ended w AtRow (r .entry .key)
   unfolding met
-  stops-below t fine none-left = rw (fine, none-left)
+  stops-at-depth t fine none-left = rw (fine, none-left)
 
   turns-there : (t : Turn) (m : ℕ) → holds w r ≡ true → w .bits ≡ suc m → met w r t ≡ turned w r t
   unfolding met
@@ -98,9 +96,9 @@ module _ (rows : ℕ → Rows.Row) (f : Rule) (count : ℕ) (l : Leg) (w : Walk)
       subst (λ (i : ℕ). GoesOn rows f count w (met w (rows i) t)) (sym (on .stands .row))
       (λ width whole g. keeps-on rows f width count whole w (ap isOn wants) g t (λ m e. rw (on .same-count, ← on .stands .row) (says m e)))
 
-  ends-there : (t : Turn) (stage : Stage) (e : End) → Says t → met w here t ≡ ended w stage (here .entry .key)
+  ended-with : (t : Turn) (stage : Stage) (e : End) → Says t → met w here t ≡ ended w stage (here .entry .key)
       → EndsSo rows (ended w stage (here .entry .key)) e → LegEnds rows f count w l e
-  ends-there t stage e says ends so =
+  ended-with t stage e says ends so =
       record {
         walk = ended w stage (here .entry .key);
         on =
@@ -170,8 +168,8 @@ module _ (rows : ℕ → Rows.Row) (f : Rule) (count : ℕ) (l : Leg) (w : Walk)
   ends-here t says last = rw (judges-so (l .at) w (on .stands) here) (go (holds w here) refl)
     where
       go : (b : Bool) → holds w here ≡ b → LegEnds rows f count w l (if b then Row here else Damage)
-      go true fine = ends-there t AtRow (Row here) says (last fine) (refl, ap rows (on .stands .row), refl)
-      go false bad = ends-there t AtDamage Damage says (meets-damage w here t bad) refl
+      go true fine = ended-with t AtRow (Row here) says (last fine) (refl, ap rows (on .stands .row), refl)
+      go false bad = ended-with t AtDamage Damage says (meets-damage w here t bad) refl
 
 -- a walk that ended with its leg's last link
 ends-at-link : (rows : ℕ → Rows.Row) (f : Rule) (count : ℕ) (l : Leg) (w : Walk) (e : End) → OnLeg count l w → EndsSo rows w e → LegEnds rows f count w l e
@@ -197,7 +195,7 @@ module _ (p : Place) (w : Walk) (st : Stands p w) where
     where
       go : (b : ℕ) → w .bits ≡ b → w .bits ≡ 0
       go zero e = e
-      go (suc m) e = let more : p .mask ≡ 2 ^ suc m - 1 = st .mask ∙ rw e in absurd (omega (arith, pow-pos m))
+      go (suc m) e = absurd (omega (arith, inner p w st m e))
 
 -- The step of both loops: a leg that passes a row, to the side that the rule says of every walk that is with the leg.
 pub passes-row : (rows : ℕ → Rows.Row) (f : Rule) (count : ℕ) (stageOf : ℕ → ℕ → Stage) (l : Leg) (s : Side) → Passing rows count (l .at)
@@ -373,4 +371,4 @@ push-ends rows count l r g w on at =
     by-row false true there used =
         ends-here rows pushing count r (v .walk) (v .on) (v .stage ∙ rw (← v .on .stands .row, there, used))
         (to (side (pred (v .walk .bits)) (here .entry .key))) (λ m e. rw e)
-        (λ fine. stops-below (v .walk) here _ fine (last there used fine))
+        (λ fine. stops-at-depth (v .walk) here _ fine (last there used fine))

@@ -1,9 +1,8 @@
 -- The loop keeps the leg with every walk that was where it began; the number that falls is the mask.
-use Prim.Native.Nat.{ℕ, _/_, _≤_, _<_}
+use Prim.Native.Nat.{_≤_}
 use mathlib.Core.Path.{_≡_, sym, _∙_}
-use mathlib.Core.Bool.{true, false}
+use mathlib.Core.Bool.{true}
 use native.Mathlib.Nat.{lt-of-lt-of-le}
-use native.Mathlib.Omega.{arith}
 use borrow.Author.Needs.{needs}
 use Rattle.ordered.specs.Word.{sideOf}
 use Rattle.ordered.specs.Way.{pushing}
