@@ -14,10 +14,11 @@ use Rattle.pretree.specs.declared.Reply.{Reply}
 use Rattle.pretree.specs.declared.Row.{Row}
 use Rattle.pretree.specs.declared.leg.End.{End}
 use Rattle.pretree.specs.declared.leg.End as Ends
-use Rattle.pretree.specs.Walk.{Stage, On, AtNone, AtRow, AtDamage}
+use Rattle.pretree.specs.declared.leg.Place.{Place}
+use Rattle.pretree.specs.Walk.{Walk, Stage, On, AtNone, AtRow, AtDamage, treeAt, below}
+use Rattle.pretree.specs.Leg.{Stands}
 use Rattle.pretree.specs.Reply.{wrong-header, too-wide, refused, answered}
 use Rattle.pretree.specs.Find.{saying}
-use Rattle.pretree.specs.Walk.{below}
 
 -- a call on the word k is refused for its header or for the word, and by the first of the two numbers that it is refused for
 abbrev pub refuses : Header → List ℕ → ℕ → Bool
@@ -43,7 +44,7 @@ word-by h key n AtDamage = refused h Damage
 -- `has` of k where its way ended so, after the rows that it passed
 abbrev pub foundBy : Header → ℕ → ℕ → End → Reply
 foundBy h k n Ends.the-variants.None = answered h NoSuchWord n
-foundBy h k n (Ends.the-variants.Row r) = if eqb (r .entry .key) k then answered h Done (n + 1) else answered h NoSuchWord (n + 1)
+foundBy h k n (Ends.the-variants.Row r) = if eqb k (r .entry .key) then answered h Done (n + 1) else answered h NoSuchWord (n + 1)
 foundBy h k n Ends.the-variants.Damage = refused h Damage
 
 -- the word at which a leg ended, after the rows that were read before its last
@@ -62,6 +63,16 @@ abbrev pub then-by : Header → ℕ → Way → Reply
 then-by h n w =
     if broken w then refused h Damage
     else answered h (saying Word (keyAt (w .end))) (n + rows w)
+
+-- the leg down to the greatest word may begin at the place p: a walk is there
+pub record GreatestFrom (h : Header) (p : Place) : Type 0 where
+  pub walk : Walk
+  pub stands : Stands p walk
+  pub same-count : walk .count ≡ h .count
+
+-- the reply of that leg, as a second way, after n rows
+abbrev pub greatestBy : Header → (ℕ → Row) → ℕ → Walk → Reply
+greatestBy h rows n w = then-by h n (way (down right) (w .bits) (treeAt rows w))
 
 -- the right child of the row i that the walk remembered, with m bits left below it
 abbrev pub aside-from : Header → (ℕ → Row) → ℕ → Bool → ℕ → ℕ → Reply

@@ -13,10 +13,11 @@ use crate::seek::seek_end;
 use crate::seek::sought;
 ghost use mathlib.Core.Path.{_≡_};
 ghost use mathlib.Core.Bool.{false};
-ghost use Prim.Native.Nat.{_+_, _≤_};
-ghost use Rattle.pretree.specs.Reply.{wrong-header, too-wide, refused, answered};
+ghost use Prim.Native.Nat.{_≤_};
+ghost use Rattle.pretree.specs.Table.{rowAt};
+ghost use Rattle.pretree.specs.Reply.{wrong-header, refused, answered};
 ghost use Rattle.pretree.specs.Find.{hasReply, firstReply, lastReply};
-ghost use Rattle.pretree.specs.Found.{foundBy, wordBy};
+ghost use Rattle.pretree.specs.Found.{foundBy, wordBy, GreatestFrom, greatestBy};
 
 impl Header {
     // "1 to 6 and 9 are refusals: counts 0, header, table and buffer untouched."
@@ -116,7 +117,12 @@ impl Header {
     }
 
     // The word at which the leg down from a place by right link, else left link, ends, after the rows that were read before it.
-    pub(crate) fn greatest(self, table: &[u32], at: Place, rows: u32) -> Reply {
+    pub(crate) fn greatest(self, table: &[u32], at: Place, rows: u32) -> Reply
+        requires header { ⌜ wrong-header self (now table) ≡ false ⌝ }
+        requires stands { ⌜ GreatestFrom self at ⌝ }
+        requires few { ⌜ rows ≤ 33 ⌝ }
+        ensures { λ r. ⌜ ((g : GreatestFrom self at) → r ≡ greatestBy self (rowAt (now (table .entry))) rows (g .walk)) ⌝ }
+    {
         let leg = down(table, self.count as usize, Leg { at, above: 0 }, 1);
         let end = row_end(table, self.count as usize, leg.at);
         self.word_by(end, rows + bits_of(at.mask) - bits_of(leg.at.mask))
