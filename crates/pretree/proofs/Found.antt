@@ -27,10 +27,10 @@ use Rattle.pretree.specs.Table.{rowAt}
 use Rattle.pretree.specs.Unfold.{judged, unfolded, shown}
 use Rattle.pretree.specs.Reply.{wrong-header, too-wide, refused, answered}
 use Rattle.pretree.specs.Find.{read-reply, saying, done, hasReply}
-use Rattle.pretree.specs.Walk.{Walk, Stage, On, AtNone, AtRow, AtDamage, isOn, rowsRead, started, startedAt, ended, treeAt, to-come, seeking, Placed, Walking, Walked}
+use Rattle.pretree.specs.Walk.{Walk, Stage, On, AtNone, AtRow, AtDamage, isOn, rowsRead, started, startedAt, ended, holds, treeAt, to-come, seeking, Placed, Walking, Walked}
 use Rattle.pretree.specs.Resume.{Going}
 use Rattle.pretree.specs.Seek.{bitsLeft, endAt, Sought, SeekEnds}
-use Rattle.pretree.specs.Leg.{rootPlace, rowEnd, EndsSo, Stands, OnLeg, BegunLeg, LegGone, LegEnds, passesDown, stageHere}
+use Rattle.pretree.specs.Leg.{rootPlace, judges, rowEnd, EndsSo, Stands, OnLeg, BegunLeg, LegGone, LegEnds, passesDown, stageHere}
 use Rattle.pretree.specs.Found.{foundBy, wordBy, then-by, GreatestFrom, greatestBy}
 use Rattle.pretree.proofs.Unfolding.{is-damaged, is-row}
 use Rattle.pretree.proofs.Between.{bits-are}
@@ -38,7 +38,6 @@ use Rattle.pretree.proofs.Walking.{at-none, at-damage, begins}
 use Rattle.pretree.proofs.Ended.{endsIn, all-gone, rows-gone}
 use Rattle.pretree.proofs.Seeking.{following-is}
 use Rattle.pretree.proofs.Sought as Seeks
-use Rattle.pretree.proofs.Places.{judges-so}
 use Rattle.pretree.proofs.Legs.{down-ends}
 
 -- a walk that ended so has ended
@@ -142,27 +141,25 @@ root-stands h few =
     }
 
 -- a way that stays ends at once
-stays : (m : ℕ) (t : Tree) → way staying m t ≡ ending m t
+pub stays : (m : ℕ) (t : Tree) → way staying m t ≡ ending m t
 unfolding way staying
 stays zero t = refl
 stays (suc m) none = refl
 stays (suc m) damaged = refl
 stays (suc m) (row i e l r) = refl
 
--- a row that is read by itself
-module _ (h : Header) (n : ℕ) (rows : ℕ → Rows.Row) (p : Place) (w : Walk) (at : Stands p w) where
-  pub row-read : then-by h n (way staying (w .bits) (treeAt rows w)) ≡ wordBy h n (rowEnd rows (w .count) p)
+-- a row that is read by itself, if the numbers of its place judge it as the definition does
+module _ (h : Header) (n : ℕ) (rows : ℕ → Rows.Row) (count m path low : ℕ) (p : Place)
+    (alike : judges p (rows (p .row)) ≡ holds (startedAt count (p .row) m path low) (rows (p .row))) where
+  pub row-read : then-by h n (way staying m (unfolded rows count m path low (p .row))) ≡ wordBy h n (rowEnd rows count p)
   unfolding broken Ways.rows
-  row-read = rw (at .row, judges-so p w at (rows (w .row))) (go (judged (w .count) (w .bits) (w .path) (w .low) (w .row) (rows (w .row))) refl)
+  row-read = rw (alike, stays m (unfolded rows count m path low (p .row))) (go (judged count m path low (p .row) (rows (p .row))) refl)
     where
-      there : Bool
-      there = judged (w .count) (w .bits) (w .path) (w .low) (w .row) (rows (w .row))
-
-      go : (b : Bool) → there ≡ b
-          → then-by h n (way staying (w .bits) (treeAt rows w))
-          ≡ wordBy h n (if b then Ends.the-variants.Row (rows (w .row)) else Ends.the-variants.Damage)
-      go true judged-so = rw (stays (w .bits) (treeAt rows w), is-row rows (w .count) (w .bits) (w .path) (w .low) (w .row) judged-so)
-      go false judged-so = rw (stays (w .bits) (treeAt rows w), is-damaged rows (w .count) (w .bits) (w .path) (w .low) (w .row) judged-so)
+      go : (b : Bool) → judged count m path low (p .row) (rows (p .row)) ≡ b
+          → then-by h n (ending m (unfolded rows count m path low (p .row)))
+          ≡ wordBy h n (if b then Ends.the-variants.Row (rows (p .row)) else Ends.the-variants.Damage)
+      go true so = rw (is-row rows count m path low (p .row) so)
+      go false so = rw (is-damaged rows count m path low (p .row) so)
 
 -- the leg down to the greatest word, from where it begins to where it ended
 module _ (h : Header) (table : List ℕ) (p : Place) (g : GreatestFrom h p) where

@@ -9,6 +9,7 @@ use Rattle.pretree.specs.Walk.{started}
 use Rattle.pretree.specs.Leg.{rootPlace}
 use Rattle.pretree.specs.Find.{firstReply}
 use Rattle.pretree.proofs.Checks.{RightHeader, right-header}
+use Rattle.pretree.proofs.Places.{judges-so}
 use Rattle.pretree.proofs.Found.{root-refused, no-root, from-root, root-stands, row-read}
 use borrow.Author.Needs.{needs}
 use Rattle.pretree.proofs.Header.first.Statement.{statement}
@@ -67,7 +68,7 @@ returns-3 c =
     let table = a .table .now in
     c .word-by .ensures
     ∙ rw (c .before .row-end .ensures, c .before .before .root .ensures)
-    (sym (row-read h 0 (rowAt table) (rootPlace (h .width)) (started h) (root-stands h (right e .at-most-32)))
+    (sym (row-read h 0 (rowAt table) (h .count) (h .width) 0 0 (rootPlace (h .width)) (judges-so (rootPlace (h .width)) (started h) (root-stands h (right e .at-most-32)) (rowAt table 0)))
     ∙ from-root h table staying (fine e) (q .if2 .left))
 
 pub first-spec : {M : Type 1} → statement M
