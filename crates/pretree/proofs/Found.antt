@@ -1,5 +1,5 @@
 -- What a call that looks for a word answers where its way ended, by the end that the code found there.
-use Prim.Native.Nat.{ℕ, zero, suc, _+_, _-_, _*_, _^_, _≤_, _<_}
+use Prim.Native.Nat.{ℕ, zero, suc, _+_, _-_, _^_, _≤_, _<_}
 use mathlib.Core.Path.{_≡_, refl, sym, ap, _∙_}
 use mathlib.Core.Bool.{Bool, true, false, _||_, or-false}
 use mathlib.Core.List.{List, []}
@@ -27,7 +27,7 @@ use Rattle.pretree.specs.Table.{rowAt}
 use Rattle.pretree.specs.Unfold.{judged, unfolded, shown}
 use Rattle.pretree.specs.Reply.{wrong-header, too-wide, refused, answered}
 use Rattle.pretree.specs.Find.{read-reply, saying, done, hasReply}
-use Rattle.pretree.specs.Walk.{Walk, Stage, On, AtNone, AtRow, AtDamage, isOn, rowsRead, started, startedAt, ended, holds, treeAt, to-come, seeking, Placed, Walking, Walked}
+use Rattle.pretree.specs.Walk.{Walk, On, AtDamage, isOn, rowsRead, started, startedAt, ended, holds, treeAt, to-come, seeking, Placed, Walking, Walked}
 use Rattle.pretree.specs.Resume.{Going}
 use Rattle.pretree.specs.Seek.{bitsLeft, endAt, Sought, SeekEnds}
 use Rattle.pretree.specs.Leg.{rootPlace, judges, rowEnd, EndsSo, Stands, OnLeg, BegunLeg, LegGone, LegEnds, passesDown, stageHere}

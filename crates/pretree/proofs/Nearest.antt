@@ -72,6 +72,14 @@ module _ (h : Header) (k : ℕ) (p n : Reading) where
       go false false (such x) no-such = refl
       go false false (such x) (such y) = refl
 
+-- `gap` of k, by the end of its way: n rows were passed
+abbrev pub gapBy : Header → List ℕ → ℕ → ℕ → End → Reply
+gapBy h table k n Ends.the-variants.None = between h k (prevReply h table k) (nextReply h table k)
+gapBy h table k n (Ends.the-variants.Row r) =
+    if eqb k (r .entry .key) then answered h (Distance 0) (n + 1)
+    else between h k (prevReply h table k) (nextReply h table k)
+gapBy h table k n Ends.the-variants.Damage = refused h Damage
+
 -- `prev` goes the way of k first, so what breaks that breaks it
 prev-broken : (w : Way) (a : Perhaps ℕ) (p : Perhaps Step) → broken w ≡ true → brokenIn (prev-by w a p .ways) ≡ true
 unfolding brokenIn
@@ -118,14 +126,6 @@ module _ (h : Header) (table : List ℕ) (k : ℕ) (fine : wrong-header h table 
   absent : between h k (prevReply h table k) (nextReply h table k) ≡ reply-with h Distance (both h k lower upper)
   absent = rw (prev-reply, next-reply) (both-say h k lower upper)
 
-  -- `gap` where the way of k ended so, after the rows that it passed
-  abbrev pub gapBy : ℕ → End → Reply
-  gapBy n Ends.the-variants.None = between h k (prevReply h table k) (nextReply h table k)
-  gapBy n (Ends.the-variants.Row r) =
-      if eqb k (r .entry .key) then answered h (Distance 0) (n + 1)
-      else between h k (prevReply h table k) (nextReply h table k)
-  gapBy n Ends.the-variants.Damage = refused h Damage
-
   module _ (w : Walk) (gone : Walked (rowAt table) (seeking k k) (h .width) (h .count) (shown h table) w) where
     abbrev way-of-k : Way
     way-of-k = way (seeking k k) (h .width) (shown h table)
@@ -149,7 +149,7 @@ module _ (h : Header) (table : List ℕ) (k : ℕ) (fine : wrong-header h table 
     damaged-below b = rw (broken-append (lower .ways) (upper .ways), prev-broken (way (following k) (h .width) (shown h table)) _ _ (rw (following-is k) b))
 
     abbrev Says : End → Stage → Type 0
-    Says e stage = by-found (only-if (eqb k) (keyAt (endsIn (rowAt table) w stage))) ≡ gapBy (h .width - w .bits) e
+    Says e stage = by-found (only-if (eqb k) (keyAt (endsIn (rowAt table) w stage))) ≡ gapBy h table k (h .width - w .bits) e
 
     by-end : (e : End) → EndsSo (rowAt table) w e → way-of-k .end ≡ endsIn (rowAt table) w (w .stage) → Says e (w .stage)
     unfolding by-found broken brokenIn rowsOf
@@ -169,7 +169,7 @@ module _ (h : Header) (table : List ℕ) (k : ℕ) (fine : wrong-header h table 
         by-key true = there
         by-key false = sym absent
 
-    pub gap-ends : (e : End) → EndsSo (rowAt table) w e → gapReply h table k ≡ gapBy (h .width - w .bits) e
+    pub gap-ends : (e : End) → EndsSo (rowAt table) w e → gapReply h table k ≡ gapBy h table k (h .width - w .bits) e
     gap-ends e so =
         at-end
         ∙ ap (λ (end : Tree). by-found (only-if (eqb k) (keyAt end))) (all-gone _ _ _ _ _ w gone .end)
@@ -177,7 +177,7 @@ module _ (h : Header) (table : List ℕ) (k : ℕ) (fine : wrong-header h table 
 
   -- where its seek stopped
   pub gap-sought : (s : Seek) → Sought (rowAt table) h (shown h table) k s → 0 < h .count
-      → gapReply h table k ≡ gapBy (h .width - bitsLeft (s .mask)) (endAt (rowAt table) (h .count) k s)
+      → gapReply h table k ≡ gapBy h table k (h .width - bitsLeft (s .mask)) (endAt (rowAt table) (h .count) k s)
   gap-sought s g some =
       let e : SeekEnds (rowAt table) h (shown h table) k s (endAt (rowAt table) (h .count) k s) = seek-ends table h k fine small s g some in
       rw (bits-are table h k fine small s (endAt (rowAt table) (h .count) k s) e) (gap-ends (e .walk) (e .walked) (endAt (rowAt table) (h .count) k s) (e .ends))

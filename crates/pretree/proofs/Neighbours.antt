@@ -1,7 +1,7 @@
 -- The replies of the calls that answer a word, from the walks that went their ways.
-use Prim.Native.Nat.{ℕ, suc, _+_, _%_, _≤_, _<_}
-use mathlib.Core.Path.{_≡_, refl, sym, ap, ap₂, _∙_}
-use mathlib.Core.Bool.{Bool, true, false, not, _&&_, _||_, or-false}
+use Prim.Native.Nat.{ℕ, suc, _%_}
+use mathlib.Core.Path.{_≡_, ap, ap₂, _∙_}
+use mathlib.Core.Bool.{Bool, true, false, not, _&&_, or-false}
 use mathlib.Core.List.{List, [], _∷_}
 use native.Mathlib.Nat.{add-zero}
 use lib.Dec.{ltb, eqb}

@@ -1,4 +1,4 @@
--- What the reading calls answer where their walks ended: the contracts of the small functions that turn a walk's end into a reply.
+-- What the reading calls answer where their ways ended: the contracts of the small functions that turn an end into a reply.
 use Prim.Native.Nat.{ℕ, suc, _+_, _%_}
 use mathlib.Core.Path.{_≡_}
 use mathlib.Core.Bool.{Bool, true, false, not, _&&_, _||_}
@@ -27,13 +27,13 @@ refuses h table k = wrong-header h table || too-wide h k
 abbrev pub refusal : Header → List ℕ → Reply
 refusal h table = if wrong-header h table then refused h WrongHeader else refused h WordTooWide
 
--- `has` of k where its way ended so, after the rows that it passed
+-- `has` of k, by the end of its way: n rows were passed, and a row at the end counts as one more
 abbrev pub foundBy : Header → ℕ → ℕ → End → Reply
 foundBy h k n Ends.the-variants.None = answered h NoSuchWord n
 foundBy h k n (Ends.the-variants.Row r) = if eqb k (r .entry .key) then answered h Done (n + 1) else answered h NoSuchWord (n + 1)
 foundBy h k n Ends.the-variants.Damage = refused h Damage
 
--- the word at which a leg ended, after the rows that were read before its last
+-- the word at which a leg ended: n rows were read before that one
 abbrev pub wordBy : Header → ℕ → End → Reply
 wordBy h n Ends.the-variants.None = answered h NoSuchWord n
 wordBy h n (Ends.the-variants.Row r) = answered h (Word (r .entry .key)) (n + 1)

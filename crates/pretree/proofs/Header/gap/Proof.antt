@@ -1,5 +1,5 @@
 -- The checks of document 01's order, and then where the seek stopped.
-use Prim.Native.Nat.{_-_, _≤_, _<_}
+use Prim.Native.Nat.{_-_}
 use mathlib.Core.Path.{_≡_, refl, sym, _∙_}
 use mathlib.Core.Bool.{false}
 use mathlib.Core.List.{[], _∷_}
@@ -70,7 +70,7 @@ reply : (c : tie.After-seek-end)
     let e = q .before .before .before in
     let a = e .before .before .before .args in
     gapReply (a .self) (a .table .now) (a .word)
-    ≡ gapBy (a .self) (a .table .now) (a .word) (fine e .0) (fine e .1) (a .self .width - bitsLeft (q .sought .result .mask)) (c .seek-end .result)
+    ≡ gapBy (a .self) (a .table .now) (a .word) (a .self .width - bitsLeft (q .sought .result .mask)) (c .seek-end .result)
 reply c =
     let q = c .before .before in
     let e = q .before .before .before in
@@ -130,10 +130,8 @@ nearest-requires c κs = fine (c .before .before .before .before .before .before
 returns-5 : tie.Need-returns-5
 returns-5 c =
     let n = c .before .before in
-    c .nearest .ensures
-    ∙ sym
-    (reply (n .before)
-    ∙ ⊎-elim (λ w. rw (w .1 .given .1, ne-eqb _ _ (λ same. w .4 .left (sym same)))) (λ w. rw (neither (n .before .seek-end .result) (n .match .keys2) (w .keys2)))
+    rw (c .nearest .ensures, reply (n .before))
+    (⊎-elim (λ w. rw (w .1 .given .1, ne-eqb _ _ (λ same. w .4 .left (sym same)))) (λ w. rw (neither (n .before .seek-end .result) (n .match .keys2) (w .keys2)))
     (c .before .match2 .came))
 
 pub gap-spec : {M : Type 1} → statement M

@@ -1,5 +1,4 @@
 -- The checks of document 01's order, and then where the seek stopped.
-use Prim.Native.Nat.{_≤_, _<_}
 use mathlib.Core.Path.{_≡_, sym, _∙_}
 use mathlib.Core.Bool.{false}
 use native.Mathlib.Nat.{pos-of-ne-zero}

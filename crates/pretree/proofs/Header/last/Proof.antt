@@ -1,12 +1,10 @@
 -- The header's check, and then the greatest word from the root down.
-use Prim.Native.Nat.{_≤_}
 use mathlib.Core.Path.{_≡_, refl, sym, _∙_}
 use mathlib.Core.Bool.{false}
 use native.Mathlib.Omega.{arith}
 use Rattle.ordered.specs.Word as Words
 use Rattle.ordered.specs.Way.{down}
 use Rattle.ordered.specs.Reading.{last}
-use Rattle.pretree.specs.Table.{rowAt}
 use Rattle.pretree.specs.Reply.{wrong-header}
 use Rattle.pretree.specs.Walk.{started}
 use Rattle.pretree.specs.Find.{lastReply}
