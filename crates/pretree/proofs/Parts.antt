@@ -8,9 +8,9 @@ use native.Mathlib.Numerals.{add-one}
 use native.Mathlib.Omega.{arith}
 use lib.Bits.{bitAnd, and-mask}
 use lib.Dec.{ltb, leb, eqb}
-use lib.ListN.{length, set, drop}
+use lib.ListN.{length, set, length-set}
 use lib.Pow.{pow-pos, pow-lt, pow-add, suc-ones, split, shr-lt, shl-shr}
-use lib.Seq.{sets, sets-eq}
+use lib.Seq.{sets}
 use borrow.Author.Tests.{ltb-true, ltb-false, eqb-true, eqb-false, lt-ltb, le-ltb, eq-eqb, ne-eqb}
 use Rattle.ordered.specs.Such.{if_then_else_}
 use Rattle.ordered.specs.Word.{Side, left, right, bitOf}
@@ -26,8 +26,8 @@ use Rattle.pretree.specs.Unfold.{ends-there, judged, linked, unfolded}
 use Rattle.pretree.specs.Walk.{Walk, holds, startedAt, passed, below}
 use Rattle.pretree.specs.Leg.{judges, belowPlace, rowEnd, linkEnd, Stands}
 use Rattle.pretree.specs.Seek.{bitsLeft}
-use Rattle.pretree.specs.Part.{ofPlace, rowTree, linkTree, placeTree, counted, StandsSome, Standing}
-use Rattle.pretree.proofs.Between.{bits-are}
+use Rattle.pretree.specs.Part.{ofPlace, rowTree, linkTree, placeTree, counted, StandsSome, Standing, StandingLink, Listable}
+use Rattle.pretree.proofs.Between.{bits-are, half-mask}
 use Rattle.pretree.proofs.Places.{judges-so, below-stands, inner}
 use Rattle.pretree.proofs.Unfolding.{is-row, is-damaged}
 
@@ -70,9 +70,29 @@ linked-none : (part : ℕ → Tree) (i : ℕ) → i ≡ 0 → linked part i ≡ 
 linked-none part zero e = refl
 linked-none part (suc i) e = absurd (suc-ne-zero i e)
 
+-- two lists are written one after the other
+sets-append : (xs ys l : List ℕ) (i : ℕ) → sets (sets l i xs) (i + length xs) ys ≡ sets l i (xs ++ ys)
+sets-append [] ys l i = rw add-zero
+sets-append (x ∷ xs) ys l i = rw (add-suc, ← suc-add) (sets-append xs ys (set l i x) (suc i))
+
+-- a row is written before its parts: `next` is its place
+listed-row : (i : ℕ) (e : Entry) (l r : Tree) (buffer : List ℕ) (next : ℕ)
+    → sets (sets (set buffer next (e .key)) (next + 1) (listing l)) (next + 1 + size l) (listing r) ≡ sets buffer next (listing (row i e l r))
+unfolding listing
+listed-row i e l r buffer next =
+    let length-left : length (listing l) ≡ size l = listing-length l in
+    rw (← length-left, sets-append (listing l) (listing r) (set buffer next (e .key)) (next + 1), add-one)
+
 -- ---- a place and the walk that stands there
 
 module _ (rows : ℕ → Rows.Row) (n : ℕ) where
+  -- what is found at a place tells what stands there
+  abbrev pub Found : Place → Tree → End → Type 0
+  Found p part None = part ≡ none
+  Found p part (Row r) =
+      (r ≡ rows (p .row)) × (part ≡ rowTree rows n (bitsLeft (p .mask)) (p .row)) × Standing rows n (p .mask) (p .row) × (r .entry .key < 2 ^ 32)
+  Found p part Damage = part ≡ damaged
+
   module _ (p : Place) (w : Walk) (st : Stands p w) where
     pub place-bits : bitsLeft (p .mask) ≡ w .bits
     place-bits = ap bitsLeft (st .mask) ∙ bits-are (w .bits) (st .few)
@@ -83,14 +103,7 @@ module _ (rows : ℕ → Rows.Row) (n : ℕ) where
     pub place-shows : placeTree rows n p ≡ linked (unfolded rows n (w .bits) (w .path) (w .low)) (w .row)
     place-shows = rw (place-bits, place-path, st .low, st .row)
 
-    -- what is found at the place tells what stands there
-    abbrev pub Found : Tree → End → Type 0
-    Found part None = part ≡ none
-    Found part (Row r) =
-        (r ≡ rows (p .row)) × (part ≡ rowTree rows n (bitsLeft (p .mask)) (p .row)) × Standing rows n (p .mask) (p .row) × (r .entry .key < 2 ^ 32)
-    Found part Damage = part ≡ damaged
-
-    pub row-found : (part : Tree) → part ≡ unfolded rows n (w .bits) (w .path) (w .low) (p .row) → Found part (rowEnd rows n p)
+    pub row-found : (part : Tree) → part ≡ unfolded rows n (w .bits) (w .path) (w .low) (p .row) → Found p part (rowEnd rows n p)
     row-found part is = go (ltb (p .row) n) (judges p (rows (p .row))) refl refl
       where
         judged-is : (b c : Bool) → ltb (p .row) n ≡ b → judges p (rows (p .row)) ≡ c → judged n (w .bits) (w .path) (w .low) (p .row) (rows (p .row)) ≡ (b && c)
@@ -104,7 +117,7 @@ module _ (rows : ℕ → Rows.Row) (n : ℕ) where
             let least : key % 2 ^ w .bits < 2 ^ w .bits = mod-lt key (pow-pos (w .bits)) in
             omega (arith, st .room, st .path, st .mask)
 
-        go : (b c : Bool) → ltb (p .row) n ≡ b → judges p (rows (p .row)) ≡ c → Found part (if b && c then Row (rows (p .row)) else Damage)
+        go : (b c : Bool) → ltb (p .row) n ≡ b → judges p (rows (p .row)) ≡ c → Found p part (if b && c then Row (rows (p .row)) else Damage)
         go true true used fine =
             let held : holds w (rows (p .row)) ≡ true = sym (judges-so p w st (rows (p .row))) ∙ fine in
             let past = and-true (leb (w .low) (rows (p .row) .entry .key)) _ held .1 in
@@ -123,17 +136,29 @@ module _ (rows : ℕ → Rows.Row) (n : ℕ) where
         go true false used fine = is ∙ is-damaged rows n (w .bits) (w .path) (w .low) (p .row) (judged-is true false used fine)
         go false c used fine = is ∙ is-damaged rows n (w .bits) (w .path) (w .low) (p .row) (judged-is false c used fine)
 
-    pub link-found : Found (placeTree rows n p) (linkEnd rows n p)
+    pub link-found : Found p (placeTree rows n p) (linkEnd rows n p)
     link-found = go (eqb (p .row) 0) refl
       where
         shows : placeTree rows n p ≡ linked (unfolded rows n (w .bits) (w .path) (w .low)) (p .row)
         shows = rw (place-bits, place-path, st .low)
 
-        go : (b : Bool) → eqb (p .row) 0 ≡ b → Found (placeTree rows n p) (if b then None else rowEnd rows n p)
+        go : (b : Bool) → eqb (p .row) 0 ≡ b → Found p (placeTree rows n p) (if b then None else rowEnd rows n p)
         go true e = shows ∙ linked-none _ (p .row) (eqb-true (p .row) 0 e)
         go false e = row-found (placeTree rows n p) (shows ∙ linked-row _ (p .row) (eqb-false (p .row) 0 e))
 
   -- ---- a row that is no damage, and the places below it
+
+  module _ (mask i : ℕ) (g : Standing rows n mask i) where
+    -- a row with a link has a bit left that decides
+    pub some-bits : not (eqb (rows i .left) 0 && eqb (rows i .right) 0) ≡ true → (m : ℕ) × (g .bits ≡ suc m)
+    some-bits has = go (g .bits) refl (g .ends)
+      where
+        go : (b : ℕ) → g .bits ≡ b → ends-there b (rows i) ≡ true → (m : ℕ) × (g .bits ≡ suc m)
+        go (suc m) e end = (m, e)
+        go zero e end = absurd (true-not-false (rw end at has))
+          where
+            true-not-false : false ≡ true → ⊥
+            true-not-false e = let z : _≡_ {A = ℕ} 0 1 = cc in omega arith
 
   module _ (mask i : ℕ) (g : Standing rows n mask i) (small : rows i .entry .key < 2 ^ 32) where
     abbrev key : ℕ
@@ -166,17 +191,6 @@ module _ (rows : ℕ → Rows.Row) (n : ℕ) where
             let more : suc (key / 2 ^ g .bits) * 2 ^ g .bits ≡ key / 2 ^ g .bits * 2 ^ g .bits + 2 ^ g .bits = suc-mul (key / 2 ^ g .bits) (2 ^ g .bits) in
             let some : 0 < 2 ^ g .bits = pow-pos (g .bits) in
             rw (path-is, g .mask-is) (omega arith)
-
-    -- a row with a link has a bit left that decides
-    pub some-bits : not (eqb (rows i .left) 0 && eqb (rows i .right) 0) ≡ true → (m : ℕ) × (g .bits ≡ suc m)
-    some-bits has = go (g .bits) refl (g .ends)
-      where
-        go : (b : ℕ) → g .bits ≡ b → ends-there b (rows i) ≡ true → (m : ℕ) × (g .bits ≡ suc m)
-        go (suc m) e end = (m, e)
-        go zero e end = absurd (true-not-false (rw end at has))
-          where
-            true-not-false : false ≡ true → ⊥
-            true-not-false e = let z : _≡_ {A = ℕ} 0 1 = cc in omega arith
 
     module _ (m : ℕ) (bits : g .bits ≡ suc m) (s : Side) where
       abbrev child : Place
@@ -294,7 +308,7 @@ module _ (rows : ℕ → Rows.Row) (n : ℕ) where
       side-count s = counted (placeTree rows n (sidePlace s))
 
       pub bits : (m : ℕ) × (c .standing .bits ≡ suc m)
-      bits = some-bits mask (c .i) (c .standing) (rw (c .at) at small) (rw (c .at) at has)
+      bits = some-bits mask (c .i) (c .standing) (rw (c .at) at has)
 
       pub side-stands : (s : Side) → Stands (sidePlace s) (child-walk mask (c .i) (c .standing) (rw (c .at) at small) (bits .0) (bits .1) s)
       side-stands s = rw (c .at) (child-stands mask (c .i) (c .standing) (rw (c .at) at small) (bits .0) (bits .1) s)
@@ -334,7 +348,7 @@ module _ (rows : ℕ → Rows.Row) (n : ℕ) where
         pub right-damage : placeTree rows n (sidePlace right) ≡ damaged → total ≡ 0
         right-damage e = sum-so ∙ rw (e, counted-damaged, ne-eqb (side-count left) 0 whole)
 
-        pub right-row : (next : Rows.Row) → Found (sidePlace right) _ (side-stands right) (placeTree rows n (sidePlace right)) (Row next)
+        pub right-row : (next : Rows.Row) → Found (sidePlace right) (placeTree rows n (sidePlace right)) (Row next)
             → Counting total most next (mask / 2) (links + side-count left)
         right-row next (is, shows, stands, small) =
             record {
@@ -367,3 +381,212 @@ module _ (rows : ℕ → Rows.Row) (n : ℕ) where
             again false e =
                 rw (right-is, e, ne-eqb (side-count left + there) 0 (λ z. whole (omega arith)))
                 (omega (arith, c .some))
+
+  -- ---- the parts of a row without damage
+
+  -- what a link shows, if that has no damage: a row that is none
+  module _ (m path low : ℕ) (few : m ≤ 32) where
+    whole-row : (i : ℕ) → intact (unfolded rows n m path low i) ≡ true
+        → (unfolded rows n m path low i ≡ rowTree rows n m i) × Standing rows n (2 ^ m - 1) i
+    unfolding intact
+    whole-row i whole = go (judged n m path low i (rows i)) refl
+      where
+        go : (b : Bool) → judged n m path low i (rows i) ≡ b → (unfolded rows n m path low i ≡ rowTree rows n m i) × Standing rows n (2 ^ m - 1) i
+        go true h =
+            let used = and-true (ltb i n) _ h in
+            let past = and-true (leb low (rows i .entry .key)) _ (used .1) in
+            let ends = and-true (eqb (rows i .entry .key / 2 ^ m) path) _ (past .1) in
+            (is-row rows n m path low i h, record { bits = m; few = few; mask-is = refl; used = ltb-true _ _ (used .0); ends = ends .1 })
+        go false h = absurd (false-not-true (rw (is-damaged rows n m path low i h) at whole))
+          where
+            false-not-true : false ≡ true → ⊥
+            false-not-true e = let z : _≡_ {A = ℕ} 0 1 = cc in omega arith
+
+    pub whole-link : (i : ℕ) → intact (linked (unfolded rows n m path low) i) ≡ true
+        → (linked (unfolded rows n m path low) i ≡ linkTree rows n m i) × StandingLink rows n (2 ^ m - 1) i
+    whole-link zero whole = (refl, record { bits = m; few = few; mask-is = refl; row = λ some. absurd (some refl) })
+    whole-link (suc i) whole =
+        let r = whole-row (suc i) whole in
+        (r .0, record { bits = m; few = few; mask-is = refl; row = λ some. r .1 })
+
+  -- ---- how `row_listed` goes on from row to row
+
+  pub record Writing (total : Tree) (first : List ℕ) (start most : ℕ) (buffer : List ℕ) (r : Rows.Row) (mask next : ℕ) : Type 0 where
+    pub i : ℕ
+    pub at : r ≡ rows i
+    pub standing : Standing rows n mask i
+    pub whole : intact (rowTree rows n (standing .bits) i) ≡ true
+    -- what is still to be written makes the whole
+    pub to-come : sets buffer next (listing (rowTree rows n (standing .bits) i)) ≡ sets first start (listing total)
+    pub end : next + size (rowTree rows n (standing .bits) i) ≡ start + size total
+    pub room : start + size total ≤ length buffer
+    pub falls : mask ≤ most
+
+  pub writing-begins : (mask i : ℕ) (buffer : List ℕ) (start : ℕ) → Standing rows n mask i → Listable (rowTree rows n (bitsLeft mask) i) buffer start
+      → Writing (rowTree rows n (bitsLeft mask) i) buffer start mask buffer (rows i) mask start
+  writing-begins mask i buffer start g l =
+      let bits-so : g .bits ≡ bitsLeft mask = sym (ap bitsLeft (g .mask-is) ∙ bits-are (g .bits) (g .few)) in
+      record {
+        i = i;
+        at = refl;
+        standing = record { bits = bitsLeft mask; few = subst (λ (b : ℕ). b ≤ 32) bits-so (g .few); mask-is = g .mask-is ∙ ap (λ (b : ℕ). 2 ^ b - 1) bits-so; used = g .used; ends = subst (λ (b : ℕ). ends-there b (rows i) ≡ true) bits-so (g .ends) };
+        whole = l .whole;
+        to-come = refl;
+        end = refl;
+        room = l .room;
+        falls = le-refl mask;
+      }
+
+  module _ (total : Tree) (first : List ℕ) (start most : ℕ) (buffer : List ℕ) (r : Rows.Row) (mask next : ℕ)
+      (c : Writing total first start most buffer r mask next) where
+    abbrev here-row : Rows.Row
+    here-row = rows (c .i)
+
+    abbrev side-part : Side → Tree
+    side-part s = below rows n (c .standing .bits) (c .i) s
+
+    same-key : r .entry .key ≡ here-row .entry .key
+    same-key = ap (λ (x : Rows.Row). x .entry .key) (c .at)
+
+    pub write-room : next < length buffer
+    unfolding size
+    write-room = omega (arith, c .end, c .room)
+
+    -- the last row has no links
+    module _ (leaf : not (eqb (r .left) 0 && eqb (r .right) 0) ≡ false) where
+      side-none : (m : ℕ) (s : Side) → link here-row s ≡ 0 → below rows n m (c .i) s ≡ none
+      side-none zero s e = refl
+      side-none (suc m) s e = linked-none _ (link here-row s) e
+
+      zeros : (eqb (here-row .left) 0 ≡ true) × (eqb (here-row .right) 0 ≡ true)
+      zeros = and-true (eqb (here-row .left) 0) _ (flip _ (rw (c .at) at leaf))
+        where
+          flip : (b : Bool) → not b ≡ false → b ≡ true
+          flip true e = refl
+          flip false e = sym e
+
+      left-none : side-part left ≡ none
+      left-none = side-none (c .standing .bits) left (eqb-true _ _ (zeros .0))
+
+      right-empty : side-part right ≡ none
+      right-empty = side-none (c .standing .bits) right (eqb-true _ _ (zeros .1))
+
+      pub writing-ends : (next + 1 ≡ start + size total) × (set buffer next (r .entry .key) ≡ sets first start (listing total))
+      unfolding size listing
+      writing-ends =
+          (
+            let all : next + suc (size (side-part left) + size (side-part right)) ≡ start + size total = c .end in
+            let few : next + 1 ≡ next + suc (size (side-part left) + size (side-part right)) = rw (left-none, right-empty) (omega arith) in
+            few ∙ all,
+            let so : sets buffer next (here-row .entry .key ∷ (listing (side-part left) ++ listing (side-part right))) ≡ sets first start (listing total) = c .to-come in
+            rw same-key (rw (left-none, right-empty) at so),
+          )
+
+    module _ (has : not (eqb (r .left) 0 && eqb (r .right) 0) ≡ true) where
+      deeper : (m : ℕ) × (c .standing .bits ≡ suc m)
+      deeper = some-bits mask (c .i) (c .standing) (rw (c .at) at has)
+
+      abbrev m : ℕ
+      m = deeper .0
+
+      half : mask / 2 ≡ 2 ^ m - 1
+      half = ap (λ (x : ℕ). x / 2) (c .standing .mask-is ∙ ap (λ (b : ℕ). 2 ^ b - 1) (deeper .1)) ∙ half-mask m
+
+      pub half-less : mask / 2 < mask
+      half-less =
+          let full : mask ≡ 2 ^ suc m - 1 = c .standing .mask-is ∙ ap (λ (b : ℕ). 2 ^ b - 1) (deeper .1) in
+          let twice : 2 ^ suc m ≡ 2 ^ m * 2 = pow-suc 2 m in
+          let some : 0 < 2 ^ m = pow-pos m in
+          omega (arith, half)
+
+      few-bits : m ≤ 32
+      few-bits = omega (arith, c .standing .few, deeper .1)
+
+      half-bits : bitsLeft (mask / 2) ≡ m
+      half-bits = ap bitsLeft half ∙ bits-are m few-bits
+
+      sides-whole : (intact (side-part left) ≡ true) × (intact (side-part right) ≡ true)
+      unfolding intact
+      sides-whole = and-true (intact (side-part left)) _ (c .whole)
+
+      side-whole : (s : Side) → intact (side-part s) ≡ true
+      side-whole left = sides-whole .0
+      side-whole right = sides-whole .1
+
+      side-so : (s : Side) → (side-part s ≡ linkTree rows n (bitsLeft (mask / 2)) (link r s)) × StandingLink rows n (mask / 2) (link r s)
+      side-so s =
+          let path : ℕ = here-row .entry .key / 2 ^ suc m * 2 + bitOf s in
+          let deep : side-part s ≡ linked (unfolded rows n m path (suc (here-row .entry .key))) (link here-row s) = ap (λ (b : ℕ). below rows n b (c .i) s) (deeper .1) in
+          let shown = whole-link m path (suc (here-row .entry .key)) few-bits (link here-row s) (rw (← deep) (side-whole s)) in
+          rw (c .at, half-bits, half) (deep ∙ shown .0, shown .1)
+
+      abbrev after-left : Tree
+      after-left = linkTree rows n (bitsLeft (mask / 2)) (r .left)
+
+      abbrev written : List ℕ
+      written = set buffer next (r .entry .key)
+
+      sizes : next + suc (size (side-part left) + size (side-part right)) ≡ start + size total
+      unfolding size
+      sizes = c .end
+
+      pub left-standing : StandingLink rows n (mask / 2) (r .left)
+      left-standing = side-so left .1
+
+      pub left-listable : Listable after-left written (next + 1)
+      left-listable =
+          record {
+            whole = rw (← side-so left .0) (side-whole left);
+            room =
+                let same : length written ≡ length buffer = length-set buffer next (r .entry .key) in
+                let left-size : size after-left ≡ size (side-part left) = ap size (sym (side-so left .0)) in
+                omega (arith, sizes, c .room);
+          }
+
+      -- past the left part, which ends at `middle` and leaves `second`
+      module _ (middle : ℕ) (second : List ℕ) (ends : middle ≡ next + 1 + size after-left) (leaves : second ≡ sets written (next + 1) (listing after-left)) where
+        middle-so : middle ≡ next + 1 + size (side-part left)
+        middle-so = ends ∙ ap (λ (t : Tree). next + 1 + size t) (sym (side-so left .0))
+
+        all-written : sets second middle (listing (side-part right)) ≡ sets first start (listing total)
+        all-written =
+            let second-so : second ≡ sets (set buffer next (here-row .entry .key)) (next + 1) (listing (side-part left))
+            = leaves ∙ ap (λ (t : Tree). sets written (next + 1) (listing t)) (sym (side-so left .0)) ∙ ap (λ (k : ℕ). sets (set buffer next k) (next + 1) (listing (side-part left))) same-key in
+            rw (second-so, middle-so) (listed-row (c .i) (record { key = here-row .entry .key }) (side-part left) (side-part right) buffer next) ∙ c .to-come
+
+        pub right-empty-ends : r .right ≡ 0 → (middle ≡ start + size total) × (second ≡ sets first start (listing total))
+        unfolding size listing
+        right-empty-ends e =
+            let gone : side-part right ≡ none = side-so right .0 ∙ linked-none _ (r .right) e in
+            let so : sets second middle (listing (side-part right)) ≡ sets first start (listing total) = all-written in
+            (
+              let none-size : size (side-part right) ≡ 0 = ap size gone in
+              omega (arith, middle-so, sizes),
+              rw gone at so,
+            )
+
+        module _ (some : r .right ≡ 0 → ⊥) where
+          right-stands : Standing rows n (mask / 2) (r .right)
+          right-stands = side-so right .1 .row some
+
+          right-bits : right-stands .bits ≡ bitsLeft (mask / 2)
+          right-bits = sym (ap bitsLeft (right-stands .mask-is) ∙ bits-are (right-stands .bits) (right-stands .few))
+
+          right-tree : side-part right ≡ rowTree rows n (right-stands .bits) (r .right)
+          right-tree = side-so right .0 ∙ linked-row _ (r .right) some ∙ ap (λ (b : ℕ). rowTree rows n b (r .right)) (sym right-bits)
+
+          pub right-used : r .right < n
+          right-used = right-stands .used
+
+          pub right-goes-on : length second ≡ length buffer → Writing total first start most second (rows (r .right)) (mask / 2) middle
+          right-goes-on same =
+              record {
+                i = r .right;
+                at = refl;
+                standing = right-stands;
+                whole = rw (← right-tree) (side-whole right);
+                to-come = rw (← right-tree) all-written;
+                end = let same-size : size (rowTree rows n (right-stands .bits) (r .right)) ≡ size (side-part right) = ap size (sym right-tree) in omega (arith, middle-so, sizes);
+                room = rw same (c .room);
+                falls = omega (arith, c .falls, half-less);
+              }

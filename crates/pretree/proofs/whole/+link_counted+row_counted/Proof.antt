@@ -97,11 +97,11 @@ module _ (t : ℕ) where
   found :
       (c : link-counted-lts.After-link-end (by-link t) (link-counted-at t) link-counted.Post)
       → (e : End) → c .link-end .result ≡ e
-      → parts.Found (rowAt (c .before .before .args .table .now)) (c .before .before .args .count) (c .before .before .args .at) (c .before .before .pre .1 .1 .walk)
-          (c .before .before .pre .1 .1 .stands) (placeTree (rowAt (c .before .before .args .table .now)) (c .before .before .args .count) (c .before .before .args .at)) e
+      → parts.Found (rowAt (c .before .before .args .table .now)) (c .before .before .args .count) (c .before .before .args .at)
+          (placeTree (rowAt (c .before .before .args .table .now)) (c .before .before .args .count) (c .before .before .args .at)) e
   found c e is =
       let s = c .before .before in
-      subst (parts.Found (rowAt (s .args .table .now)) (s .args .count) (s .args .at) (s .pre .1 .1 .walk) (s .pre .1 .1 .stands) _) (sym (c .link-end .ensures) ∙ is)
+      subst (parts.Found (rowAt (s .args .table .now)) (s .args .count) (s .args .at) _) (sym (c .link-end .ensures) ∙ is)
       (parts.link-found (rowAt (s .args .table .now)) (s .args .count) (s .args .at) (s .pre .1 .1 .walk) (s .pre .1 .1 .stands))
 
   row-counted-requires : link-counted-lts.Need-row-counted-requires (by-link t) (link-counted-at t) link-counted.Post
@@ -220,12 +220,12 @@ module _ (t : ℕ) where
     rows = rowAt (a d .table .now)
 
     right-found : (e : End) → c .link-end .result ≡ e
-        → parts.Found rows (a d .count) (place d right) _ (parts.side-stands rows (a d .count) (total d) (a d .bits) (r d) _ _ (inv d) (has d) (small d) right) (placeTree rows (a d .count) (place d right)) e
+        → parts.Found rows (a d .count) (place d right) (placeTree rows (a d .count) (place d right)) e
     right-found e so =
         let made : c .before .below2 .result ≡ place d right
         = c .before .below2 .ensures ∙ ap (λ (p : Place). belowPlace p (r d) right) (c .before .before .before .before .before .of .ensures) in
         let ends : linkEnd rows (a d .count) (place d right) ≡ e = sym (c .link-end .ensures ∙ ap (linkEnd rows (a d .count)) made) ∙ so in
-        subst (λ (x : End). parts.Found rows (a d .count) (place d right) _ _ _ x) ends
+        subst (parts.Found rows (a d .count) (place d right) _) ends
         (parts.link-found rows (a d .count) (place d right) _ (parts.side-stands rows (a d .count) (total d) (a d .bits) (r d) _ _ (inv d) (has d) (small d) right))
 
     left-count : c .before .before .before .link-counted .result ≡ counted (placeTree rows (a d .count) (place d left))
