@@ -62,7 +62,7 @@ both-few a b most few-a few-b = go (eqb a 0) (eqb b 0)
     go false true = omega arith
     go false false = omega arith
 
-linked-row : (part : ℕ → Tree) (i : ℕ) → (i ≡ 0 → ⊥) → linked part i ≡ part i
+pub linked-row : (part : ℕ → Tree) (i : ℕ) → (i ≡ 0 → ⊥) → linked part i ≡ part i
 linked-row part zero e = absurd (e refl)
 linked-row part (suc i) e = refl
 
