@@ -1,95 +1,139 @@
+// The calls on the whole table: `new`, `audit` and `list`.
+// "The listing of a row's part is its key, then its left part, then its right part": `audit` and `list` go so through the rows. They recurse on
+// the left part and go on with the right part, with the bits left as the number that falls.
+
 use crate::Answer;
 use crate::Header;
 use crate::Reply;
 use crate::Row;
+use crate::leg::End;
 use crate::leg::Place;
+use crate::leg::link_end;
+use crate::leg::mask_of;
+use crate::leg::row_end;
 use crate::table::capacity;
 use crate::table::row_at;
 ghost use mathlib.Core.Path.{_≡_};
-ghost use mathlib.Core.Bool.{false};
+ghost use mathlib.Core.Bool.{false, not, _&&_};
 ghost use mathlib.Core.List.{_++_};
 ghost use Prim.Native.Nat.{_+_, _*_, _≤_};
+ghost use lib.Dec.{eqb};
 ghost use lib.ListN.{drop, replicate};
 ghost use lib.Seq.{sets};
-ghost use Rattle.ordered.specs.Word.{sideOf};
 ghost use Rattle.ordered.specs.Tree.{listing, size};
-ghost use Rattle.pretree.specs.Table.{capacity, rowAt};
+ghost use Rattle.pretree.specs.Table.{rowWords, capacity, rowAt};
 ghost use Rattle.pretree.specs.Sound.{isSound};
-ghost use Rattle.pretree.specs.Reply.{refused, answered, wrong-header};
+ghost use Rattle.pretree.specs.Reply.{wrong-header};
 ghost use Rattle.pretree.specs.Whole.{newReply, newTable, auditReply, listReply, listBuffer};
+ghost use Rattle.pretree.specs.Seek.{bitsLeft};
+ghost use Rattle.pretree.specs.Part.{ofPlace, rowTree, linkTree, placeTree, counted, StandsSome, Standing, StandingLink, Listable};
 
-
-// The empty links below a row that is no damage: one more than the rows; 0 where there is damage.
-fn row_counted(table: &[u32], count: usize, i: usize, mask: u32) -> u64 {
-    let row = row_at(table, i);
-    let lefts = side_counted(table, count, child(row, mask, 0));
-    if lefts == 0 {
-        return 0;
+impl Place {
+    // Where a row that is no damage stands, as its own key shows.
+    fn of(row: Row, mask: u32) -> Place
+        ensures { λ r. ⌜ r ≡ ofPlace row mask ⌝ }
+    {
+        let key = row.entry.key;
+        Place {
+            row: 0,
+            mask,
+            path: key - (key & mask),
+            low: 0,
+        }
     }
-    let rights = side_counted(table, count, child(row, mask, 1));
-    if rights == 0 {
-        return 0;
-    }
-    lefts + rights
 }
 
-fn child(row: Row, mask: u32, side: u32) -> Place {
-    let half = mask / 2;
-    let key = row.entry.key;
-    let path = key - (key & mask);
-    if side == 0 {
-        return Place { row: row.left as usize, mask: half, path, low: key as u64 + 1 };
+fn has_link(row: Row) -> bool
+    ensures { λ r. ⌜ r ≡ not (eqb (row .left) 0 && eqb (row .right) 0) ⌝ }
+{
+    if row.left != 0 {
+        return true;
     }
-    Place { row: row.right as usize, mask: half, path: path + half + 1, low: key as u64 + 1 }
+    row.right != 0
 }
 
-fn side_counted(table: &[u32], count: usize, at: Place) -> u64 {
-    let i = at.row;
-    if i == 0 {
-        return 1;
+// The empty links below a row that is no damage, or 0 where there is damage below. A part has one more of them than it has rows. Keys strictly
+// rise along the rows that are met before the first damage, so none is met twice, on a table with loops or shared rows too.
+fn row_counted(table: &[u32], count: usize, from: usize, bits: u32) -> u64
+    requires room { ⌜ count ≤ capacity (now table) ⌝ }
+    requires row { ⌜ Standing (rowAt (now table)) count bits from ⌝ }
+    ensures { λ r. ⌜ r ≡ counted (rowTree (rowAt (now (table .entry))) count (bitsLeft bits) from) ⌝ }
+{
+    let mut row = row_at(table, from);
+    let mut mask = bits;
+    let mut links: u64 = 1;
+    while has_link(row) {
+        let at = Place::of(row, mask);
+        let lefts = link_counted(table, count, at.below(row, 0));
+        if lefts == 0 {
+            return 0;
+        }
+        links += lefts;
+        let end = link_end(table, count, at.below(row, 1));
+        match end {
+            End::None => return links,
+            End::Damage => return 0,
+            End::Row(next) => row = next,
+        }
+        mask = mask / 2;
     }
-    if count <= i {
-        return 0;
-    }
-    let row = row_at(table, i);
-    if !at.judges(row) {
-        return 0;
-    }
-    if row.left | row.right == 0 {
-        return 2;
-    }
-    row_counted(table, count, i, at.mask)
+    links + 1
 }
 
-fn row_listed(table: &[u32], at: usize, mask: u32, buffer: &mut [u32], next: usize) -> usize {
-    let row = row_at(table, at);
+// The same below a link. An empty link counts itself.
+fn link_counted(table: &[u32], count: usize, at: Place) -> u64
+    requires room { ⌜ count ≤ capacity (now table) ⌝ }
+    requires place { ⌜ StandsSome at ⌝ }
+    ensures { λ r. ⌜ r ≡ counted (placeTree (rowAt (now (table .entry))) count at) ⌝ }
+{
+    let end = link_end(table, count, at);
+    match end {
+        End::None => 1,
+        End::Damage => 0,
+        End::Row(row) => row_counted(table, count, at.row, at.mask),
+    }
+}
+
+// Writes the listing of a row's part to the buffer from `start` on. The result is the place after it.
+fn row_listed(table: &[u32], from: usize, bits: u32, buffer: &mut [u32], start: usize) -> usize
+    requires row { ⌜ Standing (rowAt (now table)) (capacity (now table)) bits from ⌝ }
+    requires part { ⌜ Listable (rowTree (rowAt (now table)) (capacity (now table)) (bitsLeft bits) from) (now buffer) start ⌝ }
+    ensures end { λ r. ⌜ r ≡ start + size (rowTree (rowAt (now (table .entry))) (capacity (now (table .entry))) (bitsLeft bits) from) ⌝ }
+    ensures words { λ _. ⌜ now (buffer .exit) ≡ sets (now (buffer .entry)) start (listing (rowTree (rowAt (now (table .entry))) (capacity (now (table .entry))) (bitsLeft bits) from)) ⌝ }
+{
+    let mut row = row_at(table, from);
+    let mut mask = bits;
+    let mut next = start;
+    while has_link(row) {
+        buffer[next] = row.entry.key;
+        next = link_listed(table, row.left, mask / 2, buffer, next + 1);
+        if row.right == 0 {
+            return next;
+        }
+        row = row_at(table, row.right as usize);
+        mask = mask / 2;
+    }
     buffer[next] = row.entry.key;
-    let middle = side_listed(table, row.left, mask / 2, buffer, next + 1);
-    side_listed(table, row.right, mask / 2, buffer, middle)
+    next + 1
 }
 
-fn side_listed(table: &[u32], link: u32, mask: u32, buffer: &mut [u32], next: usize) -> usize {
+// The same of the part that a link leads to.
+fn link_listed(table: &[u32], link: u32, mask: u32, buffer: &mut [u32], next: usize) -> usize
+    requires row { ⌜ StandingLink (rowAt (now table)) (capacity (now table)) mask link ⌝ }
+    requires part { ⌜ Listable (linkTree (rowAt (now table)) (capacity (now table)) (bitsLeft mask) link) (now buffer) next ⌝ }
+    ensures end { λ r. ⌜ r ≡ next + size (linkTree (rowAt (now (table .entry))) (capacity (now (table .entry))) (bitsLeft mask) link) ⌝ }
+    ensures words { λ _. ⌜ now (buffer .exit) ≡ sets (now (buffer .entry)) next (listing (linkTree (rowAt (now (table .entry))) (capacity (now (table .entry))) (bitsLeft mask) link)) ⌝ }
+{
     if link == Header::NONE {
         return next;
-    }
-    let row = row_at(table, link as usize);
-    if row.left | row.right == 0 {
-        buffer[next] = row.entry.key;
-        return next + 1;
     }
     row_listed(table, link as usize, mask, buffer, next)
 }
 
-fn side_root(table: &[u32], count: usize, mask: u32) -> u64 {
-    let at = Place { row: 0, mask, path: 0, low: 0 };
-    if !at.judges(row_at(table, 0)) {
-        return 0;
-    }
-    if count == 1 { return 2; }
-    row_counted(table, count, 0, mask)
-}
-
-fn clear(table: &mut [u32]) {
+// Zeros in every row up to capacity. "Words past the last whole row, or past that limit, are never changed."
+fn clear(table: &mut [u32])
+    ensures { λ _. ⌜ now (table .exit) ≡ replicate (rowWords * capacity (now (table .entry))) 0 ++ drop (rowWords * capacity (now (table .entry))) (now (table .entry)) ⌝ }
+{
     let words = Header::ROW * (capacity(table) as usize);
     let mut at = 0;
     while at < words {
@@ -99,6 +143,7 @@ fn clear(table: &mut [u32]) {
 }
 
 impl Header {
+    // "`new` makes no check but 1; it clears every row and hands back its W with a count of 0."
     pub fn new(self, table: &mut [u32], width: u32) -> Reply
         ensures { λ r. ⌜ (r ≡ newReply self width) × (now (table .exit) ≡ newTable (now (table .entry)) width) ⌝ }
     {
@@ -112,15 +157,24 @@ impl Header {
         Header::fresh(width).answered(Answer::Done, 0)
     }
 
-    fn is_sound(self, table: &[u32]) -> bool {
-        let count = self.count;
+    // The whole tree has no damage and as many rows as are in use, so that no row is left to which nothing leads.
+    fn is_sound(self, table: &[u32]) -> bool
+        requires header { ⌜ wrong-header self (now table) ≡ false ⌝ }
+        ensures { λ r. ⌜ r ≡ isSound self (now (table .entry)) ⌝ }
+    {
+        let count = self.count as usize;
         if count == 0 {
             return true;
         }
-        let mask = ((1u64 << self.width) - 1) as u32;
-        side_root(table, count as usize, mask) == count as u64 + 1
+        let root = Place::root(self.width);
+        let end = row_end(table, count, root);
+        if let End::Damage = end {
+            return false;
+        }
+        row_counted(table, count, 0, root.mask) == count as u64 + 1
     }
 
+    // "`audit` says whether the table is sound."
     pub fn audit(self, table: &[u32]) -> Reply
         ensures { λ r. ⌜ r ≡ auditReply self (now (table .entry)) ⌝ }
     {
@@ -133,6 +187,7 @@ impl Header {
         self.answered(Answer::Done, self.count)
     }
 
+    // "`list` writes it to a lent buffer of 32-bit words and leaves the rest of the buffer." All is judged before anything is written.
     pub fn list(self, table: &[u32], buffer: &mut [u32]) -> Reply
         ensures { λ r. ⌜ (r ≡ listReply self (now (table .entry)) (now (buffer .entry))) × (now (buffer .exit) ≡ listBuffer self (now (table .entry)) (now (buffer .entry))) ⌝ }
     {
@@ -149,8 +204,7 @@ impl Header {
         if count == 0 {
             return self.answered(Answer::Done, count);
         }
-        let mask = ((1u64 << self.width) - 1) as u32;
-        row_listed(table, 0, mask, buffer, 0);
+        row_listed(table, 0, mask_of(self.width), buffer, 0);
         self.answered(Answer::Done, count)
     }
 }
