@@ -1,13 +1,14 @@
 -- The reply of `next`, from the seek that has gone the way of k: as the definition has it, on every table.
-use Prim.Native.Nat.{ℕ, zero, suc, pred, _+_, _*_, _-_, _/_, _%_, _^_, _≤_, _<_}
+use Prim.Native.Nat.{ℕ, suc, pred, _+_, _*_, _-_, _/_, _%_, _^_, _≤_, _<_}
 use mathlib.Core.Path.{_≡_, refl, sym, ap, _∙_, subst}
 use mathlib.Core.Bool.{Bool, true, false, not, _&&_}
 use mathlib.Core.List.{List}
-use native.Mathlib.Nat.{suc-ne-zero, pos-of-ne-zero}
+use native.Mathlib.Nat.{suc-ne-zero, pos-of-ne-zero, sub-self, lt-of-lt-of-le}
 use native.Mathlib.Omega.{arith}
 use lib.Bits.{bitAnd}
 use lib.Dec.{ltb, leb, eqb}
-use borrow.Author.Tests.{lt-ltb, le-ltb, le-leb, lt-leb, eq-eqb, ne-eqb, ltb-true, ltb-false, eqb-true, eqb-false}
+use lib.Pow.{pow-mono, ones-lt}
+use borrow.Author.Tests.{le-ltb, le-leb, lt-leb, eq-eqb, ne-eqb, ltb-true, ltb-false, eqb-true, eqb-false}
 use Rattle.ordered.specs.Such.{if_then_else_}
 use Rattle.ordered.specs.Word.{Side, left, right, sideOf, bitOf, side}
 use Rattle.ordered.specs.Way.{stop, to}
@@ -20,19 +21,21 @@ use Rattle.pretree.specs.declared.leg.End.the-variants.{None, Row, Damag
 use Rattle.pretree.specs.declared.seek.Seek.{Seek}
 use Rattle.pretree.specs.Table.{rowWords, rowAt, link}
 use Rattle.pretree.specs.Unfold.{ends-there, shown}
-use Rattle.pretree.specs.declared.Answer.the-variants.{Word}
+use Rattle.pretree.specs.declared.Answer.the-variants.{Word, NoSuchWord}
 use Rattle.pretree.specs.Reply.{wrong-header, too-wide, answered}
 use Rattle.pretree.specs.Find.{nextReply}
 use Rattle.pretree.specs.Found.{next-from, aside-from}
 use Rattle.pretree.specs.Leg.{EndsSo}
 use Rattle.pretree.specs.Seek.{bitsLeft, turn, stepped, endOf, endAt, asideOf, spanOf, Sought, SeekEnds}
 use Rattle.pretree.specs.Next.{nextFrom, nextAt}
-use Rattle.pretree.specs.Walk.{Walk, Stage, On, AtNone, AtRow, AtDamage, isOn, endRead, stageAt, holds, ended, remembering, passed, turned, met, seeking, seekTurn, Placed, Walking, Walked}
+use Rattle.pretree.specs.Walk.{Walk, Stage, AtNone, AtRow, AtDamage, isOn, endRead, started, stageAt, holds, ended, remembering, passed, turned, met, seeking, seekTurn, Placed, Walking, Walked}
 use Rattle.pretree.specs.Resume.{again, resumed}
 use Rattle.pretree.proofs.Between.{half-mask, turns-so, next-rest}
+use Rattle.pretree.proofs.Checks.{right-header}
 use Rattle.pretree.proofs.Neighbours.{next-at}
 use Rattle.pretree.proofs.NextWord.{ShowsNext, reply-by, aside-reply, from-link}
 use Rattle.pretree.proofs.PassingEqual.{passes-on, takes-on}
+use Rattle.pretree.proofs.Walking.{begins-root}
 use Rattle.pretree.proofs.Sought.{seek-ends, bits-are}
 
 -- what the end of a seek tells: at an empty link it wants no row, and a row at which it ends has a key that is not less than k
@@ -306,3 +309,23 @@ module _ (h : Header) (table : List ℕ) (k : ℕ) (fine : wrong-header h table 
   next-by-seek some sought =
       let g = seek-ends table h k fine small s sought some in
       by-end (endAt rows (h .count) k s) g (g .ends) (end-tells rows (h .count) k s)
+
+  -- the right link left aside has fewer than 32 bits left below it
+  pub span-few : 0 < h .count → Sought rows h (shown h table) k s → s .span < 2 ^ 31
+  span-few some sought =
+      let g = seek-ends table h k fine small s sought some in
+      rw (g .span) (go (g .walk .any) (g .walked .walking .memory .aside-used))
+    where
+      go : {i n m : ℕ} (any : Bool) → (any ≡ true → (i < n) × (m < h .width)) → spanOf any m < 2 ^ 31
+      go false used = omega arith
+      go {m} true used =
+          let few : m ≤ 31 = omega (arith, used refl .1, right-header h table fine .at-most-32) in
+          lt-of-lt-of-le (ones-lt m) (pow-mono few)
+
+-- with a count of 0 the way is empty
+pub next-of-none : (h : Header) (table : List ℕ) (k : ℕ) → wrong-header h table ≡ false → too-wide h k ≡ false → h .count ≡ 0
+    → nextReply h table k ≡ answered h NoSuchWord 0
+next-of-none h table k fine small empty =
+    let none-used : eqb (h .count) 0 ≡ true = eq-eqb (h .count) 0 empty in
+    next-at h table k (started h) fine small (record { walking = begins-root h table (seeking (suc k) k); ended = rw none-used })
+    ∙ rw (none-used, sub-self (h .width))

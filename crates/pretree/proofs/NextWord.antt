@@ -1,7 +1,7 @@
 -- The next greater word, by the numbers of the seek: the place where it stands is where its definition looks for it, and is judged alike.
-use Prim.Native.Nat.{ℕ, zero, suc, pred, _+_, _*_, _-_, _/_, _%_, _^_, _≤_, _<_}
-use mathlib.Core.Path.{_≡_, refl, sym, ap, ap₂, _∙_, subst}
-use mathlib.Core.Bool.{Bool, true, false, not, _&&_, true≢false}
+use Prim.Native.Nat.{ℕ, zero, suc, _+_, _*_, _-_, _/_, _%_, _^_, _≤_, _<_}
+use mathlib.Core.Path.{_≡_, refl, sym, ap, _∙_}
+use mathlib.Core.Bool.{Bool, true, false, _&&_}
 use mathlib.Core.List.{List}
 use native.Mathlib.Nat.{suc-ne-zero, add-zero, pow-suc, mul-assoc, mul-comm, suc-mul, mul-le-mul-right, lt-suc-self, le-trans, le-of-lt, lt-of-lt-of-le}
 use native.Mathlib.Numerals.{add-one}
@@ -9,9 +9,9 @@ use native.Mathlib.Omega.{arith}
 use lib.Bits.{bitAnd, bitOr, and-mask, or-shifted}
 use lib.Dec.{ltb, leb, eqb}
 use lib.Pow.{split, pow-pos, pow-lt, pow-mono, pow-add, suc-ones, shr-lt}
-use borrow.Author.Tests.{lt-ltb, le-ltb, le-leb, eq-eqb, ne-eqb, ltb-true, ltb-false, leb-true, eqb-true, eqb-false}
+use borrow.Author.Tests.{lt-ltb, le-leb, ne-eqb, leb-true, eqb-true, eqb-false}
 use Rattle.ordered.specs.Such.{if_then_else_}
-use Rattle.ordered.specs.Word.{Side, left, right, sideOf, bitOf, side}
+use Rattle.ordered.specs.Word.{left, right, side}
 use Rattle.ordered.specs.Tree.{Tree, none, row, damaged}
 use Rattle.ordered.specs.Way.{way, ending, rows, broken, staying, stop, to}
 use Rattle.ordered.proofs.Bits.{next-bit, by-paths}
@@ -20,20 +20,19 @@ use Rattle.ordered.proofs.Ways.{and-true}
 use Rattle.pretree.specs.declared.Header.{Header}
 use Rattle.pretree.specs.declared.Row.{Row}
 use Rattle.pretree.specs.declared.Reply.{Reply}
-use Rattle.pretree.specs.declared.Answer.the-variants.{Word, NoSuchWord}
 use Rattle.pretree.specs.declared.leg.End as Ends
 use Rattle.pretree.specs.declared.leg.Place.{Place}
 use Rattle.pretree.specs.declared.seek.Seek.{Seek}
 use Rattle.pretree.specs.Table.{rowAt, link}
 use Rattle.pretree.specs.Unfold.{ends-there, judged, linked, unfolded, shown}
-use Rattle.pretree.specs.Reply.{wrong-header, too-wide, refused, answered}
+use Rattle.pretree.specs.Reply.{wrong-header, too-wide}
 use Rattle.pretree.specs.Find.{nextReply}
 use Rattle.pretree.specs.Found.{wordBy, then-by, aside-from, next-from}
 use Rattle.pretree.specs.Leg.{judges, linkEnd, Stands}
 use Rattle.pretree.specs.Seek.{asideOf, spanOf}
 use Rattle.pretree.specs.Next.{nextPlace, nextFrom}
-use Rattle.pretree.specs.Walk.{Walk, Stage, On, AtNone, AtRow, AtDamage, isOn, endRead, rowsRead, stageAt, startedAt, holds, ended, turned, met, below, stepAt, remembered, seeking, seekTurn, Walking, Walked}
-use Rattle.pretree.proofs.Checks.{RightHeader, right-header, narrow}
+use Rattle.pretree.specs.Walk.{Walk, On, AtNone, AtRow, AtDamage, isOn, rowsRead, stageAt, startedAt, holds, ended, turned, met, below, stepAt, remembered, seeking, seekTurn, Walking, Walked}
+use Rattle.pretree.proofs.Checks.{right-header, narrow}
 use Rattle.pretree.proofs.Neighbours.{next-at}
 use Rattle.pretree.proofs.PassingEqual.{OnWay, aside-on-way, takes-on}
 use Rattle.pretree.proofs.Places.{judges-so}

@@ -1,16 +1,16 @@
 -- "as the way of k, but rows equal to k are passed through": the walk of that way is the walk of the way of k, which goes on from its end.
-use Prim.Native.Nat.{ℕ, zero, suc, _+_, _*_, _/_, _^_, _≤_, _<_}
+use Prim.Native.Nat.{ℕ, zero, suc, _+_, _*_, _/_, _^_, _≤_}
 use mathlib.Core.Path.{_≡_, refl, sym, ap, _∙_, subst}
 use mathlib.Core.Bool.{Bool, true, false}
-use mathlib.Core.List.{List, []}
+use mathlib.Core.List.{List}
 use native.Mathlib.Nat.{div-eq-of-lt}
 use native.Mathlib.Omega.{arith}
-use lib.Dec.{ltb, leb, eqb}
+use lib.Dec.{ltb, eqb}
 use borrow.Author.Tests.{lt-ltb, ltb-true}
-use Rattle.ordered.specs.Such.{if_then_else_, Perhaps, no-such, such, last-such}
-use Rattle.ordered.specs.Word.{Side, left, right, bitOf, side}
-use Rattle.ordered.specs.Tree.{Tree, none, row, damaged, Entry, part}
-use Rattle.ordered.specs.Way.{Way, Step, Rule, Turn, way, ending, passing, turning, joined, stop, to}
+use Rattle.ordered.specs.Such.{if_then_else_}
+use Rattle.ordered.specs.Word.{Side, left, right, side}
+use Rattle.ordered.specs.Tree.{Tree, none, row, Entry, part}
+use Rattle.ordered.specs.Way.{Way, Step, Rule, way, passing, turning, joined, stop, to}
 use Rattle.ordered.specs.Reading.{right-left-aside}
 use Rattle.ordered.proofs.Bits.{next-bit}
 use Rattle.ordered.proofs.Parts.{All, none-all, one-all, If-such, last-such-one}
@@ -20,7 +20,7 @@ use Rattle.pretree.specs.declared.Row.{Row}
 use Rattle.pretree.specs.Table.{rowAt}
 use Rattle.pretree.specs.Unfold.{judged, linked, unfolded, shown}
 use Rattle.pretree.specs.Reply.{too-wide}
-use Rattle.pretree.specs.Walk.{Walk, Stage, On, AtNone, AtRow, AtDamage, isOn, met, below, stepAt, remembered, seeking, seekTurn, Walking, Walked}
+use Rattle.pretree.specs.Walk.{Walk, isOn, met, below, remembered, seeking, seekTurn, Walking, Walked}
 use Rattle.pretree.specs.Resume.{resumed, Going}
 use Rattle.pretree.proofs.Checks.{narrow}
 use Rattle.pretree.proofs.Ended.{all-gone}

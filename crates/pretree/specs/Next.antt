@@ -1,6 +1,5 @@
 -- `next` by the numbers of `src/next.rt`: where the next greater word stands once the way of k has ended, and the reply.
 use Prim.Native.Nat.{ℕ, suc, _+_, _-_}
-use mathlib.Core.Bool.{Bool, true, false}
 use lib.Bits.{bitAnd, bitOr}
 use lib.Dec.{ltb, eqb}
 use Rattle.ordered.specs.Such.{if_then_else_}
