@@ -8,10 +8,10 @@ use native.Mathlib.Omega.{arith}
 use lib.Bits.{bitAnd}
 use lib.Dec.{ltb, leb, eqb}
 use lib.Pow.{pow-mono, ones-lt}
-use borrow.Author.Tests.{le-ltb, le-leb, lt-leb, eq-eqb, ne-eqb, ltb-true, ltb-false, eqb-true, eqb-false}
+use borrow.Author.Tests.{le-ltb, lt-leb, eq-eqb, ne-eqb, ltb-true, ltb-false, eqb-true, eqb-false}
 use Rattle.ordered.specs.Such.{if_then_else_}
 use Rattle.ordered.specs.Word.{Side, left, right, sideOf, bitOf, side}
-use Rattle.ordered.specs.Way.{stop, to}
+use Rattle.ordered.specs.Way.{to}
 use Rattle.ordered.proofs.Bits.{next-bit}
 use Rattle.ordered.proofs.Ways.{and-true}
 use Rattle.pretree.specs.declared.Header.{Header}
@@ -34,7 +34,7 @@ use Rattle.pretree.proofs.Between.{half-mask, turns-so, next-rest}
 use Rattle.pretree.proofs.Checks.{right-header}
 use Rattle.pretree.proofs.Neighbours.{next-at}
 use Rattle.pretree.proofs.NextWord.{ShowsNext, reply-by, aside-reply, from-link}
-use Rattle.pretree.proofs.PassingEqual.{passes-on, takes-on}
+use Rattle.pretree.proofs.PassingEqual.{passes-on, stops-past, takes-on}
 use Rattle.pretree.proofs.Walking.{begins-root}
 use Rattle.pretree.proofs.Sought.{seek-ends, bits-are}
 
@@ -75,18 +75,14 @@ module _ (rows : ℕ → Rows.Row) (count k : ℕ) (s : Seek) where
       by-count true = by-key (ltb (there .entry .key) k) refl
       by-count false = tt
 
--- a bit and its side
-side-of-bit : (s : Side) → sideOf (bitOf s) ≡ s
-side-of-bit left = refl
-side-of-bit right = refl
-
--- one row further down, at a row with key k: the seek goes with the walk
-module _ (rows : ℕ → Rows.Row) (k : ℕ) (s : Seek) (w : Walk) (m : ℕ) (bits : w .bits ≡ suc m) (row : s .row ≡ w .row) (mask : s .mask ≡ 2 ^ w .bits - 1)
+-- Where the walk w ended at a row with key k and m + 1 bits left, the seek s goes one row further down with it.
+module _ (rows : ℕ → Rows.Row) (k : ℕ) (s : Seek) (w : Walk) (m : ℕ) (bits : w .bits ≡ suc m) (mask : s .mask ≡ 2 ^ w .bits - 1)
     (tail : s .tail ≡ k % 2 ^ w .bits) (path : w .path ≡ k / 2 ^ w .bits) (aside : s .aside ≡ asideOf rows (w .any) (w .aside))
     (span : s .span ≡ spanOf (w .any) (w .beneath)) (equal : rows (w .row) .entry .key ≡ k) where
   abbrev here : Rows.Row
   here = rows (w .row)
 
+  -- to a side, leaving the right link aside or not
   abbrev stepped-to : Bool → Side → Seek
   stepped-to leaves σ =
       record {
@@ -100,11 +96,12 @@ module _ (rows : ℕ → Rows.Row) (k : ℕ) (s : Seek) (w : Walk) (m : ℕ) (bi
         span = if leaves then s .mask / 2 else s .span;
       }
 
+  -- its numbers there
   half : s .mask / 2 ≡ 2 ^ m - 1
   half = rw (mask, bits) (half-mask m)
 
-  rest : bitAnd (s .tail) (s .mask / 2) ≡ k % 2 ^ m
-  rest = rw (mask, tail, bits) (next-rest m k)
+  last-bits : bitAnd (s .tail) (s .mask / 2) ≡ k % 2 ^ m
+  last-bits = rw (mask, tail, bits) (next-rest m k)
 
   path-on : (σ : Side) → side m k ≡ σ → w .path * 2 + bitOf σ ≡ k / 2 ^ m
   path-on σ e = rw (path, bits) (sym (rw e at (next-bit m k)))
@@ -119,7 +116,7 @@ module _ (rows : ℕ → Rows.Row) (k : ℕ) (s : Seek) (w : Walk) (m : ℕ) (bi
       record {
         row = t-row;
         mask = rw (less, t-mask) half;
-        tail = rw (less, t-tail) rest;
+        tail = rw (less, t-tail) last-bits;
         path = rw (less, v-path) (path-on σ e);
         aside = t-aside;
         span = t-span;
@@ -127,6 +124,7 @@ module _ (rows : ℕ → Rows.Row) (k : ℕ) (s : Seek) (w : Walk) (m : ℕ) (bi
         low = λ some. ap suc equal;
       }
 
+  -- to the side of k's next bit
   shows-stepped : ShowsNext rows k (stepped s (link here (sideOf (turn s))) (here .right)) (turned (resumed w) here (to (side m k)))
   unfolding turned
   shows-stepped = go (ltb (s .mask / 2) (s .tail)) (side m k) turns refl
@@ -146,11 +144,12 @@ module _ (rows : ℕ → Rows.Row) (k : ℕ) (s : Seek) (w : Walk) (m : ℕ) (bi
       go false right t e = absurd (suc-ne-zero 0 (sym t))
       go false left t e = to-left (eqb (here .right) 0) refl e
 
--- nothing is left aside at a row without a right link
+-- a row without a right link leaves nothing aside
 as-before : (b c : Bool) (x y : ℕ) → c ≡ true → (if not b && not c then x else y) ≡ y
 as-before true c x y e = refl
 as-before false c x y e = rw e
 
+-- past a row one bit less is left
 turned-bits : (w : Walk) (r : Rows.Row) (σ : Side) → turned w r (to σ) .bits ≡ pred (w .bits)
 unfolding turned
 turned-bits w r right = refl
@@ -168,10 +167,11 @@ module _ (h : Header) (table : List ℕ) (k : ℕ) (fine : wrong-header h table 
     abbrev w : Walk
     w = g .walk
 
+    -- the rows that it passed
     passed-so-far : h .width - bitsLeft (s .mask) ≡ h .width - w .bits
     passed-so-far = rw (bits-are table h k fine small s e g)
 
-    -- the walk goes on by the other way
+    -- the walk is on the way that passes rows equal to k
     onward : Walking rows (seeking (suc k) k) (h .width) (h .count) (shown h table) (resumed w)
     onward = passes-on rows k (h .width) (h .count) (shown h table) w (g .walked)
 
@@ -218,23 +218,19 @@ module _ (h : Header) (table : List ℕ) (k : ℕ) (fine : wrong-header h table 
 
       -- it ends there if the key is greater than k, or no bit is left
       stops-greater : k < key → met-row ≡ ended-here
-      unfolding met turned
-      stops-greater greater = rw (judged, le-leb (suc k) key greater) (go (eqb (w .bits) 0))
-        where
-          go : (c : Bool) → (if c then ended-here else turned (resumed w) (rows (w .row)) (if c then stop else stop)) ≡ ended-here
-          go true = refl
-          go false = refl
+      stops-greater greater = stops-past k (resumed w) (rows (w .row)) judged greater
 
       stops-below : w .bits ≡ 0 → met-row ≡ ended-here
-      unfolding met turned
+      unfolding met
       stops-below none-left = rw (judged, eq-eqb (w .bits) 0 none-left)
 
+      -- so the reply is from this row
       reply-here : met-row ≡ ended-here → nextReply h table k ≡ reply-by h table k fine small ended-here
       reply-here stops =
           next-at h table k met-row fine small (record { walking = walks; ended = ap (λ (v : Walk). isOn (v .stage)) stops })
           ∙ ap (reply-by h table k fine small) stops
 
-      -- else it goes one row further down
+      -- else it goes one row further down, as the seek does
       goes-down : (m : ℕ) → w .bits ≡ suc m → key ≡ k → met-row ≡ turned (resumed w) (rows (w .row)) (to (side m k))
       unfolding met
       goes-down m bits equal =
@@ -248,7 +244,7 @@ module _ (h : Header) (table : List ℕ) (k : ℕ) (fine : wrong-header h table 
       abbrev rows-read : ℕ
       rows-read = h .width - w .bits + 1
 
-      -- at depth W the row has no links, and the seek leaves nothing new aside
+      -- at depth W the row has no links,
       no-links : w .bits ≡ 0 → (rows (w .row) .left ≡ 0) × (rows (w .row) .right ≡ 0)
       no-links none-left =
           let on-path = and-true (leb (w .low) key) _ judged .1 in
@@ -256,6 +252,7 @@ module _ (h : Header) (table : List ℕ) (k : ℕ) (fine : wrong-header h table 
           let both = and-true (eqb (rows (w .row) .left) 0) _ (subst (λ (b : ℕ). ends-there b (rows (w .row)) ≡ true) none-left ends) in
           (eqb-true _ _ (both .0), eqb-true _ _ (both .1))
 
+      -- and what stands at the right link left aside before is the answer
       by-bottom : w .bits ≡ 0 → key ≡ k → nextReply h table k ≡ nextFrom h rows k stepped-on rows-read
       by-bottom none-left equal =
           let none-right : eqb (rows (w .row) .right) 0 ≡ true = eq-eqb _ _ (no-links none-left .1) in
@@ -273,13 +270,14 @@ module _ (h : Header) (table : List ℕ) (k : ℕ) (fine : wrong-header h table 
           not-greater : reply-by h table k fine small ended-here ≡ aside-from h rows rows-read (w .any) (w .beneath) (w .aside)
           not-greater = rw (le-ltb k key (omega arith))
 
+      -- with bits left the answer stands where the link led, or at the right link left aside
       by-turn : (m : ℕ) → w .bits ≡ suc m → key ≡ k → nextReply h table k ≡ nextFrom h rows k stepped-on rows-read
       by-turn m bits equal =
           let v : Walk = turned (resumed w) (rows (w .row)) (to (side m k)) in
           let down : Walking rows (seeking (suc k) k) (h .width) (h .count) (shown h table) v
           = subst (Walking rows (seeking (suc k) k) (h .width) (h .count) (shown h table)) (goes-down m bits equal) walks in
           let one-less : h .width - v .bits ≡ rows-read = rw (turned-bits (resumed w) (rows (w .row)) (side m k)) (omega (arith, bits, g .walked .walking .fits)) in
-          from-link h table k fine small v down stepped-on (shows-stepped rows k s w m bits (g .row) (g .mask) (g .tail) (g .path) (g .aside) (g .span) equal)
+          from-link h table k fine small v down stepped-on (shows-stepped rows k s w m bits (g .mask) (g .tail) (g .path) (g .aside) (g .span) equal)
           ∙ ap (nextFrom h rows k stepped-on) one-less
 
       at-row : nextReply h table k ≡ nextAt h rows k s (Row (rows (w .row)))
@@ -304,7 +302,7 @@ module _ (h : Header) (table : List ℕ) (k : ℕ) (fine : wrong-header h table 
             at-row (at .0) past ∙ ap (λ (r : Rows.Row). nextAt h rows k s (Row r)) (sym (at .1))
         go Damage at tells = at-damage at
 
-  -- the seek's end gives the reply
+  -- `next` replies by the end of the seek
   pub next-by-seek : 0 < h .count → Sought rows h (shown h table) k s → nextReply h table k ≡ nextAt h rows k s (endAt rows (h .count) k s)
   next-by-seek some sought =
       let g = seek-ends table h k fine small s sought some in

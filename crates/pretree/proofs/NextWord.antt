@@ -11,9 +11,9 @@ use lib.Dec.{ltb, leb, eqb}
 use lib.Pow.{split, pow-pos, pow-lt, pow-mono, pow-add, suc-ones, shr-lt}
 use borrow.Author.Tests.{lt-ltb, le-leb, ne-eqb, leb-true, eqb-true, eqb-false}
 use Rattle.ordered.specs.Such.{if_then_else_}
-use Rattle.ordered.specs.Word.{left, right, side}
+use Rattle.ordered.specs.Word.{left, side}
 use Rattle.ordered.specs.Tree.{Tree, none, row, damaged}
-use Rattle.ordered.specs.Way.{way, ending, rows, broken, staying, stop, to}
+use Rattle.ordered.specs.Way.{way, ending, broken, staying}
 use Rattle.ordered.proofs.Bits.{next-bit, by-paths}
 use Rattle.ordered.proofs.Parts.{If-such}
 use Rattle.ordered.proofs.Ways.{and-true}
@@ -23,7 +23,7 @@ use Rattle.pretree.specs.declared.Reply.{Reply}
 use Rattle.pretree.specs.declared.leg.End as Ends
 use Rattle.pretree.specs.declared.leg.Place.{Place}
 use Rattle.pretree.specs.declared.seek.Seek.{Seek}
-use Rattle.pretree.specs.Table.{rowAt, link}
+use Rattle.pretree.specs.Table.{rowAt}
 use Rattle.pretree.specs.Unfold.{ends-there, judged, linked, unfolded, shown}
 use Rattle.pretree.specs.Reply.{wrong-header, too-wide}
 use Rattle.pretree.specs.Find.{nextReply}
@@ -31,10 +31,10 @@ use Rattle.pretree.specs.Found.{wordBy, then-by, aside-from, next-from}
 use Rattle.pretree.specs.Leg.{judges, linkEnd, Stands}
 use Rattle.pretree.specs.Seek.{asideOf, spanOf}
 use Rattle.pretree.specs.Next.{nextPlace, nextFrom}
-use Rattle.pretree.specs.Walk.{Walk, On, AtNone, AtRow, AtDamage, isOn, rowsRead, stageAt, startedAt, holds, ended, turned, met, below, stepAt, remembered, seeking, seekTurn, Walking, Walked}
+use Rattle.pretree.specs.Walk.{Walk, On, AtNone, AtRow, AtDamage, isOn, rowsRead, stageAt, startedAt, holds, ended, turned, met, stepAt, remembered, seeking, seekTurn, Walking, Walked}
 use Rattle.pretree.proofs.Checks.{right-header, narrow}
 use Rattle.pretree.proofs.Neighbours.{next-at}
-use Rattle.pretree.proofs.PassingEqual.{OnWay, aside-on-way, takes-on}
+use Rattle.pretree.proofs.PassingEqual.{OnWay, aside-on-way, stops-past, takes-on}
 use Rattle.pretree.proofs.Places.{judges-so}
 use Rattle.pretree.proofs.Unfolding.{is-damaged, is-row}
 
@@ -76,24 +76,24 @@ part-room k b small few =
     let room′ : k / 2 ^ b * 2 ^ b + 2 ^ b ≤ 2 ^ 32 = rw (suc-mul (k / 2 ^ b) (2 ^ b), all) at room in
     omega (arith, pow-pos b)
 
--- The path of the right part of a row with that key and m bits left below it.
+-- the path of the right part of a row with that key and m bits left below it
 abbrev right-path : ℕ → ℕ → ℕ
 right-path key m = key / 2 ^ suc m * 2 + 1
 
--- Its right link's place, by the numbers of the code: l is the link.
+-- the place of its right link l, by the numbers of the code
 abbrev aside-place : ℕ → ℕ → ℕ → Place
 aside-place k m l = record { row = l; mask = 2 ^ m - 1; path = bitOr (k - bitAnd k (2 ^ m - 1)) (suc (2 ^ m - 1)); low = suc k }
 
--- The row was passed on the way of k, to the left. The words of its right part have the bits of k's path down to the one that is 0 in k.
+-- The row was passed on the way of k, to the left. The words of its right part have k's bits down to one that is 0 in k and 1 in them.
 module _ (k key m : ℕ) (least : key ≤ k) (on-path : key / 2 ^ suc m ≡ k / 2 ^ suc m) (goes-left : side m k ≡ left) where
   k-path : k / 2 ^ m ≡ key / 2 ^ suc m * 2 + 0
   k-path = rw on-path (rw goes-left at (next-bit m k))
 
-  -- so they are greater than k
+  -- so they are greater than k,
   greater : (x : ℕ) → x / 2 ^ m ≡ right-path key m → k < x
   greater x e = by-paths m k x (omega (arith, k-path))
 
-  -- and it is the same to them whether k or the row's key is their bound
+  -- and a bound of k says the same of them as a bound of the row's key
   same-bound : (count i : ℕ) (r : Row) → holds (startedAt count i m (right-path key m) (suc k)) r ≡ holds (startedAt count i m (right-path key m) (suc key)) r
   same-bound count i r = go (eqb (r .entry .key / 2 ^ m) (right-path key m)) refl
     where
@@ -114,7 +114,7 @@ module _ (k key m : ℕ) (least : key ≤ k) (on-path : key / 2 ^ suc m ≡ k / 
           rw (le-leb (suc k) x above, le-leb (suc key) x above-key)
       go false e = neither (leb (suc k) x) (leb (suc key) x)
 
-  -- the least of them
+  -- the least of them,
   start : right-path key m * 2 ^ m ≡ key / 2 ^ suc m * 2 ^ suc m + 2 ^ m
   start = rw (add-one (key / 2 ^ suc m * 2), suc-mul (key / 2 ^ suc m * 2) (2 ^ m), pow-suc 2 m, mul-assoc, mul-comm 2 (2 ^ m))
 
@@ -127,7 +127,7 @@ module _ (k key m : ℕ) (least : key ≤ k) (on-path : key / 2 ^ suc m ≡ k / 
       let rest : k - k % 2 ^ m ≡ key / 2 ^ suc m * 2 ^ suc m = omega (arith, split k m, k-start) in
       rw (and-mask k m, suc-ones m, rest, or-shifted (key / 2 ^ suc m) (suc m) (2 ^ m) some) (sym start)
 
-  -- where their row stands
+  -- The place where their row stands
   module _ (small : k < 2 ^ 32) (few : suc m ≤ 32) (count l : ℕ) where
     aside-stands : Stands (aside-place k m l) (startedAt count l m (right-path key m) (suc k))
     aside-stands =
@@ -135,12 +135,12 @@ module _ (k key m : ℕ) (least : key ≤ k) (on-path : key / 2 ^ suc m ≡ k / 
         let room-here : key / 2 ^ suc m * 2 ^ suc m + 2 ^ m + (2 ^ m - 1) < 2 ^ 32 = rw on-path (omega (arith, room, pow-suc 2 m)) in
         record { row = refl; mask = refl; path = start-is; low = refl; few = le-of-lt few; room = rw (start-is, start) room-here }
 
-    -- is judged as the definition does
+    -- is judged as in the definition.
     aside-alike : (r : Row)
         → judges (aside-place k m l) r ≡ (leb (suc key) (r .entry .key) && (eqb (r .entry .key / 2 ^ m) (right-path key m) && ends-there m r))
     aside-alike r = judges-so (aside-place k m l) (startedAt count l m (right-path key m) (suc k)) aside-stands r ∙ same-bound count l r
 
--- what is known where the seek s stands for a walk that has met no key greater than k: a link led both here
+-- a link led the walk w here, and the seek s is where it is; the key above, if there is a row here, is k
 pub record ShowsNext (rows : ℕ → Row) (k : ℕ) (s : Seek) (w : Walk) : Type 0 where
   pub row : s .row ≡ w .row
   pub mask : s .mask ≡ 2 ^ w .bits - 1
@@ -158,7 +158,7 @@ module _ (h : Header) (table : List ℕ) (k : ℕ) (fine : wrong-header h table 
   word-small : k < 2 ^ 32
   word-small = lt-of-lt-of-le (narrow h k small) (pow-mono at-most)
 
-  -- the reply that a walk gives which has gone the way
+  -- the reply of a walk that has gone the whole way
   abbrev pub reply-by : Walk → Reply
   reply-by w = next-from h (rowAt table) k (w .stage) (w .key) (rowsRead w (h .width)) (w .any) (w .beneath) (w .aside)
 
@@ -180,7 +180,7 @@ module _ (h : Header) (table : List ℕ) (k : ℕ) (fine : wrong-header h table 
         → aside-from h (rowAt table) n (w .any) (w .beneath) (w .aside) ≡ nextFrom h (rowAt table) k s n
     aside-reply = aside-by (w .any) (aside-on-way h table k w small gone) (gone .walking .memory .aside-used)
 
-  -- where a link leads: the walk v is there, and the seek s
+  -- at the row to which a link led
   module _ (v : Walk) (walking : Walking (rowAt table) (seeking (suc k) k) (h .width) (h .count) (shown h table) v) (s : Seek) (shows : ShowsNext (rowAt table) k s v) where
     abbrev pub n : ℕ
     n = h .width - v .bits
@@ -188,19 +188,17 @@ module _ (h : Header) (table : List ℕ) (k : ℕ) (fine : wrong-header h table 
     abbrev r : Row
     r = rowAt table (v .row)
 
-    -- a row that it meets there is greater than k, or damage
-    met-there : (b : Bool) → holds v r ≡ b → v .low ≡ suc k
-        → met v r (seekTurn (suc k) k (r .entry .key) (v .bits)) ≡ (if b then ended v AtRow (r .entry .key) else ended v AtDamage (r .entry .key))
-    unfolding met turned
-    met-there false judged low = rw judged
-    met-there true judged low =
-        let above : leb (suc k) (r .entry .key) ≡ true = rw low at (and-true (leb (v .low) (r .entry .key)) _ judged .0) in
-        rw (judged, above) (go (eqb (v .bits) 0))
-      where
-        go : (c : Bool)
-            → (if c then ended v AtRow (r .entry .key) else turned v r (if c then stop else stop)) ≡ ended v AtRow (r .entry .key)
-        go true = refl
-        go false = refl
+    -- a row that is no damage there is greater than k
+    above-k : (v .row ≡ 0 → ⊥) → holds v r ≡ true → k < r .entry .key
+    above-k some judged = leb-true _ _ (rw (shows .low some) at (and-true (leb (v .low) (r .entry .key)) _ judged .0))
+
+    abbrev ends-with : Bool → Walk
+    ends-with b = if b then ended v AtRow (r .entry .key) else ended v AtDamage (r .entry .key)
+
+    met-there : (v .row ≡ 0 → ⊥) → (b : Bool) → holds v r ≡ b → met v r (seekTurn (suc k) k (r .entry .key) (v .bits)) ≡ ends-with b
+    unfolding met
+    met-there some false judged = rw judged
+    met-there some true judged = stops-past k v r judged (above-k some judged)
 
     abbrev child-place : Place
     child-place = record { row = v .row; mask = s .mask; path = k - s .tail; low = suc k }
@@ -218,6 +216,7 @@ module _ (h : Header) (table : List ℕ) (k : ℕ) (fine : wrong-header h table 
           room = rw (path, shows .mask) (part-room k (v .bits) word-small few);
         }
 
+    -- what the code finds at the row
     found-there : (v .row ≡ 0 → ⊥)
         → nextFrom h (rowAt table) k s n ≡ wordBy h n (if ltb (v .row) (h .count) && holds v r then Ends.the-variants.Row r else Ends.the-variants.Damage)
     found-there some =
@@ -225,24 +224,24 @@ module _ (h : Header) (table : List ℕ) (k : ℕ) (fine : wrong-header h table 
         ap (λ (p : Place). wordBy h n (linkEnd (rowAt table) (h .count) p)) there
         ∙ rw (ne-eqb (v .row) 0 some, judges-so child-place v (child-stands some) r)
 
+    -- and what the walk does
     by-child : (v .row ≡ 0 → ⊥) → isOn (v .stage) ≡ true → (b : Bool) → holds v r ≡ b
         → nextReply h table k ≡ wordBy h n (if b then Ends.the-variants.Row r else Ends.the-variants.Damage)
     by-child some on b judged =
-        next-at h table k _ fine small (record { walking = takes-on (rowAt table) (suc k) k (h .width) (h .count) (shown h table) v on walking; ended = rw (met-there b judged (shows .low some)) (off b) })
-        ∙ ap reply-by (met-there b judged (shows .low some)) ∙ said b judged
+        let onward = takes-on (rowAt table) (suc k) k (h .width) (h .count) (shown h table) v on walking in
+        next-at h table k _ fine small (record { walking = onward; ended = rw (met-there some b judged) (off b) })
+        ∙ ap reply-by (met-there some b judged)
+        ∙ said b judged
       where
-        off : (b : Bool) → isOn ((if b then ended v AtRow (r .entry .key) else ended v AtDamage (r .entry .key)) .stage) ≡ false
+        off : (b : Bool) → isOn (ends-with b .stage) ≡ false
         off true = refl
         off false = refl
 
-        said : (b : Bool) → holds v r ≡ b
-            → reply-by (if b then ended v AtRow (r .entry .key) else ended v AtDamage (r .entry .key))
-            ≡ wordBy h n (if b then Ends.the-variants.Row r else Ends.the-variants.Damage)
+        said : (b : Bool) → holds v r ≡ b → reply-by (ends-with b) ≡ wordBy h n (if b then Ends.the-variants.Row r else Ends.the-variants.Damage)
         said false judged = refl
-        said true judged =
-            let above : suc k ≤ r .entry .key = leb-true _ _ (rw (shows .low some) at (and-true (leb (v .low) (r .entry .key)) _ judged .0)) in
-            rw (lt-ltb k (r .entry .key) above)
+        said true judged = rw (lt-ltb k (r .entry .key) (above-k some judged))
 
+    -- the reply, where a link led the walk and the seek
     pub from-link : nextReply h table k ≡ nextFrom h (rowAt table) k s n
     from-link = by-row (eqb (v .row) 0) (ltb (v .row) (h .count)) refl refl
       where

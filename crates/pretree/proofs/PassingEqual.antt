@@ -1,12 +1,12 @@
 -- "as the way of k, but rows equal to k are passed through": the walk of that way is the walk of the way of k, which goes on from its end.
-use Prim.Native.Nat.{ℕ, zero, suc, _+_, _*_, _/_, _^_, _≤_}
+use Prim.Native.Nat.{ℕ, zero, suc, _+_, _*_, _/_, _^_, _≤_, _<_}
 use mathlib.Core.Path.{_≡_, refl, sym, ap, _∙_, subst}
 use mathlib.Core.Bool.{Bool, true, false}
 use mathlib.Core.List.{List}
 use native.Mathlib.Nat.{div-eq-of-lt}
 use native.Mathlib.Omega.{arith}
 use lib.Dec.{ltb, eqb}
-use borrow.Author.Tests.{lt-ltb, ltb-true}
+use borrow.Author.Tests.{lt-ltb, le-leb, ltb-true}
 use Rattle.ordered.specs.Such.{if_then_else_}
 use Rattle.ordered.specs.Word.{Side, left, right, side}
 use Rattle.ordered.specs.Tree.{Tree, none, row, Entry, part}
@@ -20,7 +20,7 @@ use Rattle.pretree.specs.declared.Row.{Row}
 use Rattle.pretree.specs.Table.{rowAt}
 use Rattle.pretree.specs.Unfold.{judged, linked, unfolded, shown}
 use Rattle.pretree.specs.Reply.{too-wide}
-use Rattle.pretree.specs.Walk.{Walk, isOn, met, below, remembered, seeking, seekTurn, Walking, Walked}
+use Rattle.pretree.specs.Walk.{Walk, AtRow, isOn, holds, ended, turned, met, below, remembered, seeking, seekTurn, Walking, Walked}
 use Rattle.pretree.specs.Resume.{resumed, Going}
 use Rattle.pretree.proofs.Checks.{narrow}
 use Rattle.pretree.proofs.Ended.{all-gone}
@@ -64,6 +64,16 @@ pub takes-on : (rows : ℕ → Row) (limit k width count : ℕ) (tree : Tree) (w
     → let r : Row = rows (w .row) in Walking rows (seeking limit k) width count tree (met w r (seekTurn limit k (r .entry .key) (w .bits)))
 takes-on rows limit k width count tree w on walking =
     keeps rows (seeking limit k) width count tree w on walking _ (λ m bits. seek-says limit k (w .bits) m _ _ _ bits)
+
+-- and it stops at a row with a key greater than k
+pub stops-past : (k : ℕ) (w : Walk) (r : Row) → holds w r ≡ true → k < r .entry .key
+    → met w r (seekTurn (suc k) k (r .entry .key) (w .bits)) ≡ ended w AtRow (r .entry .key)
+unfolding met turned
+stops-past k w r no-damage greater = rw (no-damage, le-leb (suc k) (r .entry .key) greater) (go (eqb (w .bits) 0))
+  where
+    go : (b : Bool) → (if b then ended w AtRow (r .entry .key) else turned w r (if b then stop else stop)) ≡ ended w AtRow (r .entry .key)
+    go true = refl
+    go false = refl
 
 -- a row that a way by the bits of k passed: its key is not greater than k, it has the bits of k's path, and the way turned by k's next bit
 pub record OnWay (k : ℕ) (s : Step) : Type 0 where

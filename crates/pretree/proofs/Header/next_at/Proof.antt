@@ -77,16 +77,17 @@ stepped-requires c κs = search needs
 add-next-from : tie.Need-add-next-from
 add-next-from c = search needs
 
+mask-small : (c : tie.Start) → c .args .s .mask < 2 ^ 32
+mask-small c = search needs
+
 next-from-requires-2 : tie.Need-next-from-requires-2
 next-from-requires-2 c κs =
     let q = c .before .before .before .before .before in
-    let a = q .before .before .before .before .before .args in
-    let small : a .s .mask < 2 ^ 32 = search needs in
-    let less : a .s .tail ≤ a .word = search needs in
-    let few : a .s .span < 2 ^ 31 = search needs in
-    let leaves : Bool = not (ltb (a .s .mask / 2) (a .s .tail)) && not (eqb (q .end .given .0 .0 .right) 0) in (
-      search needs,
-      (rw (c .stepped .ensures) (le-trans (and-le-l (a .s .tail) (a .s .mask / 2)) less), (rw (c .stepped .ensures) (half-few leaves small few), omega arith)),
+    let b = q .before .before .before .before .before in
+    let s = b .args .s in
+    let leaves : Bool = not (ltb (s .mask / 2) (s .tail)) && not (eqb (q .end .given .0 .0 .right) 0) in (
+      b .pre .1 .0,
+      (rw (c .stepped .ensures) (le-trans (and-le-l (s .tail) (s .mask / 2)) (b .pre .1 .1 .1 .0)), (rw (c .stepped .ensures) (half-few leaves (mask-small b) (b .pre .1 .1 .1 .1)), omega (arith, b .pre .0))),
     )
 
 returns-2 : tie.Need-returns-2
