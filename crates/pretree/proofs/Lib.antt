@@ -17,6 +17,9 @@ pub mod Resuming
 pub mod Pushing
 pub mod Adding
 pub mod Neighbours
+pub mod PassingEqual
+pub mod NextWord
+pub mod NextReply
 pub mod Nearest
 pub mod Erasing
 pub mod SoundTest

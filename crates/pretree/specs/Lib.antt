@@ -16,6 +16,7 @@ pub mod Leg
 pub mod Seek
 pub mod Push
 pub mod Found
+pub mod Next
 pub mod Gap
 pub mod Erased
 pub mod Starred

@@ -11,7 +11,11 @@ use crate::seek::Seek;
 use crate::seek::seek_end;
 use crate::seek::sought;
 ghost use mathlib.Core.Path.{_≡_};
+ghost use Prim.Native.Nat.{_≤_, _<_, _^_};
+ghost use Rattle.pretree.specs.Table.{capacity, rowAt};
 ghost use Rattle.pretree.specs.Find.{nextReply};
+ghost use Rattle.pretree.specs.Seek.{bitsLeft};
+ghost use Rattle.pretree.specs.Next.{nextPlace, nextFrom, nextAt};
 
 impl Header {
     // "least word greater than k; k need not be present"
@@ -30,7 +34,14 @@ impl Header {
     }
 
     // "If it meets a key greater than k, that is the answer." Rows equal to k are passed through: there the seek goes one row further down.
-    fn next_at(self, table: &[u32], word: u32, s: Seek, end: End) -> Reply {
+    fn next_at(self, table: &[u32], word: u32, s: Seek, end: End) -> Reply
+        requires narrow { ⌜ self .width ≤ 32 ⌝ }
+        requires room { ⌜ self .count ≤ capacity (now table) ⌝ }
+        requires mask { ⌜ bitsLeft (s .mask) ≤ self .width ⌝ }
+        requires tail { ⌜ s .tail ≤ word ⌝ }
+        requires span { ⌜ s .span < 2 ^ 31 ⌝ }
+        ensures { λ r. ⌜ r ≡ nextAt self (rowAt (now (table .entry))) word s end ⌝ }
+    {
         let passed = self.width - bits_of(s.mask);
         match end {
             End::Damage => self.refused(Answer::Damage),
@@ -47,7 +58,13 @@ impl Header {
     }
 
     // "take the deepest row where the way went left and a right link exists; its right child is read and is the answer"
-    fn next_from(self, table: &[u32], word: u32, s: Seek, rows: u32) -> Reply {
+    fn next_from(self, table: &[u32], word: u32, s: Seek, rows: u32) -> Reply
+        requires room { ⌜ self .count ≤ capacity (now table) ⌝ }
+        requires tail { ⌜ s .tail ≤ word ⌝ }
+        requires span { ⌜ s .span < 2 ^ 31 ⌝ }
+        requires few { ⌜ rows ≤ 33 ⌝ }
+        ensures { λ r. ⌜ r ≡ nextFrom self (rowAt (now (table .entry))) word s rows ⌝ }
+    {
         self.word_by(
             link_end(table, self.count as usize, s.next_place(word)),
             rows,
@@ -57,8 +74,13 @@ impl Header {
 
 impl Seek {
     // Where the next greater word stands: at the row that the seek wants, if a link led there, else at the right link that it left aside. The
-    // keys there are greater than the word: they have its bits down to one that is 0 in it.
-    fn next_place(self, word: u32) -> Place {
+    // keys there are greater than the word: they have its bits down to one that is 0 in it, and 1 in them. `|` sets that bit. (A sum would
+    // overflow where nothing was left aside and the word is the greatest of all.)
+    fn next_place(self, word: u32) -> Place
+        requires tail { ⌜ self .tail ≤ word ⌝ }
+        requires span { ⌜ self .span < 2 ^ 31 ⌝ }
+        ensures { λ r. ⌜ r ≡ nextPlace self word ⌝ }
+    {
         if self.row != 0 {
             return Place {
                 row: self.row,
@@ -70,7 +92,7 @@ impl Seek {
         Place {
             row: self.aside,
             mask: self.span,
-            path: word - (word & self.span) + self.span + 1,
+            path: (word - (word & self.span)) | (self.span + 1),
             low: word as u64 + 1,
         }
     }
