@@ -16,6 +16,7 @@ pub mod Pushing
 pub mod Adding
 pub mod Neighbours
 pub mod Nearest
+pub mod Previous
 pub mod Erasing
 pub mod SoundTest
 pub mod Starred

@@ -17,5 +17,6 @@ pub mod Seek
 pub mod Push
 pub mod Found
 pub mod Gap
+pub mod Prev
 pub mod Erased
 pub mod Starred
