@@ -3,7 +3,7 @@ use Prim.Native.Nat.{ℕ, zero, suc, _+_, _*_, _-_, _/_, _%_, _^_, _≤_, _<_}
 use mathlib.Core.Path.{_≡_, refl, sym, ap, _∙_, subst}
 use mathlib.Core.Bool.{Bool, true, false, not, _&&_}
 use mathlib.Core.List.{List, [], _∷_}
-use native.Mathlib.Nat.{add-zero, sub-self, le-refl, le-of-lt, le-of-sub-eq-zero, suc-ne-zero, pos-of-ne-zero, suc-mul, mul-assoc, mul-comm, mul-le-mul-right, pow-suc}
+use native.Mathlib.Nat.{add-zero, le-of-lt, le-of-sub-eq-zero, suc-ne-zero, pos-of-ne-zero, suc-mul, mul-assoc, mul-comm, mul-le-mul-right, pow-suc}
 use native.Mathlib.Omega.{arith}
 use lib.Bits.{bitAnd, and-mask}
 use lib.Dec.{ltb, eqb}
@@ -11,10 +11,11 @@ use lib.Pow.{split, pow-pos, pow-mono, pow-add, shr-lt}
 use denote.Enum.Declared.{tagOf}
 use types.Run.{OneOf, miss}
 use borrow.Author.Tests.{lt-ltb, le-ltb, eq-eqb, ne-eqb}
-use Rattle.ordered.specs.Such.{if_then_else_}
+use Rattle.ordered.specs.Such.{if_then_else_, last-such}
 use Rattle.ordered.specs.Word.{left, right, sideOf, isSide}
 use Rattle.ordered.specs.Tree.{Tree}
-use Rattle.ordered.specs.Way.{way, down}
+use Rattle.ordered.specs.Way.{way, rows, broken, following, down}
+use Rattle.ordered.specs.Reading.{rowsOf, brokenIn, prev}
 use Rattle.pretree.specs.declared.Header.{Header}
 use Rattle.pretree.specs.declared.Answer.the-variants.{Word, Damage, NoSuchWord}
 use Rattle.pretree.specs.declared.Reply.{Reply}
@@ -23,17 +24,17 @@ use Rattle.pretree.specs.declared.leg.End.{End}
 use Rattle.pretree.specs.declared.leg.End as Ends
 use Rattle.pretree.specs.declared.seek.Seek.{Seek}
 use Rattle.pretree.specs.Table.{capacity, rowAt}
-use Rattle.pretree.specs.Unfold.{linked, unfolded, shown}
+use Rattle.pretree.specs.Unfold.{linked, shown}
 use Rattle.pretree.specs.Reply.{wrong-header, too-wide, refused, answered}
 use Rattle.pretree.specs.Find.{prevReply}
 use Rattle.pretree.specs.Found.{then-by, above-by, above-from, prev-from, greatestBy}
-use Rattle.pretree.specs.Walk.{Walk, Stage, On, AtNone, AtRow, AtDamage, started, startedAt, treeAt, below, seeking, rowsRead, Walked}
+use Rattle.pretree.specs.Walk.{Walk, AtNone, AtRow, AtDamage, startedAt, treeAt, below, rowsRead}
 use Rattle.pretree.specs.Leg.{Stands}
 use Rattle.pretree.specs.Seek.{bitsLeft, endAt, Sought, SeekEnds}
 use Rattle.pretree.specs.Prev.{rowsTo, leftIfRight, leftPlace}
 use Rattle.pretree.proofs.leg.End.{the-type}
 use Rattle.pretree.proofs.Checks.{right-header}
-use Rattle.pretree.proofs.Walking.{begins-root}
+use Rattle.pretree.proofs.Found.{empty-way}
 use Rattle.pretree.proofs.Neighbours.{prev-at}
 use Rattle.pretree.proofs.Sought.{seek-ends, bits-are}
 
@@ -68,7 +69,7 @@ module _ (rows : ℕ → Row) (count k : ℕ) (s : Seek) (r : Row) (e : endAt ro
 abbrev pub leftStart : ℕ → Row → ℕ → Walk
 leftStart count r m = startedAt count (r .left) m (r .entry .key / 2 ^ suc m * 2 + 0) (suc (r .entry .key))
 
--- stands where the code says
+-- and where the code says that it stands
 module _ (count m : ℕ) (r : Row) (few : m < 32) (narrow : r .entry .key < 2 ^ 32) where
   abbrev key : ℕ
   key = r .entry .key
@@ -109,13 +110,10 @@ no-left true l none = refl
 no-left false l none = none
 
 module _ (table : List ℕ) (h : Header) (k : ℕ) (fine : wrong-header h table ≡ false) (small : too-wide h k ≡ false) where
-  -- with no word there is no way
+  -- with no word there is none less
   pub nothing-less : h .count ≡ 0 → answered h NoSuchWord 0 ≡ prevReply h table k
-  nothing-less empty =
-      let at : started h .stage ≡ AtNone = rw empty in
-      let gone : Walked (rowAt table) (seeking k k) (h .width) (h .count) (shown h table) (started h)
-      = record { walking = begins-root h table (seeking k k); ended = rw at } in
-      sym (prev-at h table k (started h) fine small gone ∙ rw (at, le-ltb (h .width) (h .width) (le-refl (h .width)), sub-self (h .width)))
+  unfolding prevReply prev brokenIn broken rowsOf rows last-such
+  nothing-less empty = rw (fine, small, empty-way h table (following k) empty)
 
   module _ (s : Seek) where
     abbrev bits : ℕ
@@ -124,14 +122,14 @@ module _ (table : List ℕ) (h : Header) (k : ℕ) (fine : wrong-header h table 
     abbrev EndsAt : End → Type 0
     EndsAt e = SeekEnds (rowAt table) h (shown h table) k s e
 
-    -- what the last row that the way passed tells, after n rows
+    -- what the last row that the way passed tells, after n rows: by the seek and by the walk
     abbrev from-last : ℕ → Reply
     from-last n = above-from h (rowAt table) n bits (k / 2 ^ bits) (s .above)
 
     abbrev by-walk : Walk → ℕ → Reply
     by-walk w n = above-from h (rowAt table) n (w .bits) (w .path) (w .above)
 
-    -- and what the walk tells
+    -- the reply by the walk
     abbrev told : Walk → Reply
     told w = prev-from h (rowAt table) k (w .stage) (w .key) (rowsRead w (h .width)) (w .bits) (w .path) (w .above)
 
@@ -179,7 +177,7 @@ module _ (table : List ℕ) (h : Header) (k : ℕ) (fine : wrong-header h table 
     at-end (Ends.the-variants.Row r) g is whole = at-row r g (sym is)
     at-end Ends.the-variants.Damage g is whole = absurd (whole refl)
 
--- the seek s of k stopped, and the way of k ended so
+-- where the seek s of k stopped, with e for the end of the way of k
 pub record Stopped (table : List ℕ) (h : Header) (k : ℕ) (s : Seek) (e : End) : Type 0 where
   pub fine : wrong-header h table ≡ false
   pub small : too-wide h k ≡ false
@@ -210,11 +208,11 @@ module _ {table : List ℕ} {h : Header} {k : ℕ} {s : Seek} {e : End} (g : Sto
   met-damage at =
       at-damage table h k (g .fine) (g .small) s (subst (λ (x : End). SeekEnds (rowAt table) h (shown h table) k s x) at went)
 
-  -- what follows is of a way that met no damage
+  -- without damage the last row that was passed tells the reply
   ended-whole : (e ≡ Ends.the-variants.Damage → ⊥) → told-last read ≡ prevReply h table k
   ended-whole whole = at-end table h k (g .fine) (g .small) s e went (g .end-is) whole
 
-  -- no row was passed
+  -- where no row was passed
   pub none-less : (e ≡ Ends.the-variants.Damage → ⊥) → h .width - left-bits ≡ 0 → answered h NoSuchWord read ≡ prevReply h table k
   none-less whole none =
       let so : told-last read ≡ answered h NoSuchWord read = rw (le-ltb left-bits (h .width) (le-of-sub-eq-zero none)) in
@@ -223,7 +221,7 @@ module _ {table : List ℕ} {h : Header} {k : ℕ} {s : Seek} {e : End} (g : Sto
   mask-is : s .mask ≡ 2 ^ left-bits - 1
   mask-is = went .mask ∙ ap (λ (x : ℕ). 2 ^ x - 1) (sym bits-so)
 
-  -- or the last of them is in use
+  -- where rows were passed, of the last of them
   module _ (passed : h .width - left-bits ≡ 0 → ⊥) where
     less : left-bits < h .width
     less = omega (arith, pos-of-ne-zero passed)
@@ -242,7 +240,7 @@ module _ {table : List ℕ} {h : Header} {k : ℕ} {s : Seek} {e : End} (g : Sto
         let used : went .walk .above < went .walk .count = went .walked .walking .memory .above-used fewer in
         omega (arith, went .above, went .walked .walking .same-count, right-header h table (g .fine) .has-room)
 
-    -- where its left part begins
+    -- the place of its left part
     pub part-stands : last .entry .key < 2 ^ 32 → Stands (leftPlace last (s .mask)) (leftStart (h .count) last left-bits)
     part-stands narrow =
         subst (λ (x : ℕ). Stands (leftPlace last x) (leftStart (h .count) last left-bits)) (sym mask-is)
