@@ -21,6 +21,7 @@ pub mod PassingEqual
 pub mod NextWord
 pub mod NextReply
 pub mod Nearest
+pub mod Previous
 pub mod Erasing
 pub mod SoundTest
 pub mod Starred

@@ -18,5 +18,6 @@ pub mod Push
 pub mod Found
 pub mod Next
 pub mod Gap
+pub mod Prev
 pub mod Erased
 pub mod Starred
