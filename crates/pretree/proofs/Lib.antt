@@ -14,6 +14,7 @@ pub mod Ended
 pub mod Resuming
 pub mod Pushing
 pub mod Adding
+pub mod Displacing
 pub mod Neighbours
 pub mod Nearest
 pub mod Erasing

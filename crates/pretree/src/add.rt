@@ -26,8 +26,9 @@ ghost use mathlib.Core.Path.{_≡_};
 ghost use mathlib.Core.Bool.{false};
 ghost use Prim.Native.Nat.{_-_, _≤_, _<_};
 ghost use Rattle.pretree.specs.Table.{capacity, rowAt};
+ghost use Rattle.pretree.specs.Reply.{wrong-header, too-wide};
 ghost use Rattle.pretree.specs.Add.{addOutcome, taking};
-ghost use Rattle.pretree.specs.Push.{takes-from, left-from, Rising};
+ghost use Rattle.pretree.specs.Push.{takes-from, left-from, Rising, endBits, endSide, Growable, grownOutcome, Displaces};
 
 impl Header {
     // "`add` k: the way of k. If it ends at a key greater than k, that row takes k and its old key is pushed down".
@@ -56,7 +57,14 @@ impl Header {
         }
     }
 
-    fn displaced(self, table: &mut [u32], word: u32, at: Place, row: Row) -> Reply {
+    // The way of the word ended at that row, whose key is greater: "its old key is pushed down by its own bits".
+    fn displaced(self, table: &mut [u32], word: u32, at: Place, row: Row) -> Reply
+        requires header { ⌜ wrong-header self (now table) ≡ false ⌝ }
+        requires width { ⌜ too-wide self word ≡ false ⌝ }
+        requires ends { ⌜ Displaces self (now table) word at row ⌝ }
+        ensures { λ r. ⌜ r ≡ addOutcome self (now (table .entry)) word .reply ⌝ }
+        ensures { λ _. ⌜ now (table .exit) ≡ addOutcome self (now (table .entry)) word .table ⌝ }
+    {
         let start = Leg { at: at.below(row, own_side(at.mask, row.entry.key)), above: at.row };
         let leg = pushed(table, self.count as usize, start);
         let end = link_end(table, self.count as usize, leg.at);
@@ -66,7 +74,13 @@ impl Header {
         self.grown(table, word, at.row, bits_of(at.mask), leg)
     }
 
-    fn grown(self, table: &mut [u32], word: u32, from: usize, bits: u32, leg: Leg) -> Reply {
+    // "The new row is row `count`, with both links 0, linked where the way or the push ended": the leg is there. The push began at row `from`.
+    fn grown(self, table: &mut [u32], word: u32, from: usize, bits: u32, leg: Leg) -> Reply
+        requires header { ⌜ wrong-header self (now table) ≡ false ⌝ }
+        requires growable { ⌜ Growable self (now table) from bits (endBits leg) (leg .above) ⌝ }
+        ensures { λ r. ⌜ r ≡ grownOutcome self (now (table .entry)) word from bits (endBits leg) (leg .above) (endSide leg) .reply ⌝ }
+        ensures { λ _. ⌜ now (table .exit) ≡ grownOutcome self (now (table .entry)) word from bits (endBits leg) (leg .above) (endSide leg) .table ⌝ }
+    {
         if self.count == capacity(table) {
             return self.refused(Answer::Full);
         }
