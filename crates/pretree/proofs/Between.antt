@@ -1,4 +1,4 @@
--- How far a key lies from a word tells whether it has the bits of the word's path: the numbers of a skim.
+-- How far a key lies from a word tells whether it has the bits of the word's path: the numbers of a seek.
 use Prim.Native.Nat.{ℕ, zero, suc, pred, _+_, _*_, _-_, _/_, _%_, _^_, _≤_, _<_}
 use mathlib.Core.Path.{_≡_, refl, sym, ap, _∙_, subst}
 use mathlib.Core.Bool.{Bool, true, false, not, _&&_}

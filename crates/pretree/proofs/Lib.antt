@@ -5,6 +5,7 @@ pub mod Unfolding
 pub mod Walking
 pub mod Seeking
 pub mod Between
+pub mod SeekWalk
 pub mod Sought
 pub mod Places
 pub mod Legs

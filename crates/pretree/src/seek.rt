@@ -173,7 +173,8 @@ fn goes_on(table: &[u32], count: usize, word: u32, s: Seek) -> bool
     if count <= s.row {
         return false;
     }
-    let key = table[s.at];
+    let at = s.at;
+    let key = table[at];
     s.passes(word, key)
 }
 
