@@ -12,7 +12,8 @@ use Rattle.pretree.specs.Leg.{belowPlace, linkEnd, passesPush, ownSide, 
 use Rattle.pretree.specs.Add.{addOutcome}
 use Rattle.pretree.specs.Push.{endBits, endSide, Growable, grownOutcome}
 use Rattle.pretree.proofs.Checks.{right-header}
-use Rattle.pretree.proofs.Displacing.{own-bit, inner-place, begun-push, push-damaged, push-growable, push-outcome}
+use Rattle.pretree.proofs.Legs.{own-small}
+use Rattle.pretree.proofs.Displacing.{inner-place, begun-push, push-damaged, push-growable, push-outcome}
 use borrow.Author.Needs.{needs}
 use Rattle.pretree.proofs.Header.displaced.Statement.{statement}
 use Rattle.pretree.proofs.Header.displaced.Tie as tie
@@ -25,7 +26,7 @@ below-requires c κs =
     let s = c .before .before in
     let a = s .args in (
       inner-place (a .self) (a .table .now) (a .word) (a .at) (a .row) (s .pre .0) (s .pre .1 .0) (s .pre .1 .1),
-      (s .pre .1 .1 .stands .room, rw (c .own-side .ensures) (own-bit (a .at .mask) (a .row .entry .key))),
+      (s .pre .1 .1 .stands .room, rw (c .own-side .ensures) (own-small (a .at .mask) (a .row .entry .key))),
     )
 
 cast-pushed : tie.Need-cast-pushed
