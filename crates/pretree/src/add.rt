@@ -40,14 +40,26 @@ impl Header {
             return self.refusal(table);
         }
         if self.count == 0 {
-            let start = Leg { at: Place::root(self.width), above: 0 };
+            let start = Leg {
+                at: Place::root(self.width),
+                above: 0,
+            };
             return self.grown(table, word, 0, self.width, start);
         }
         let s = sought(table, self, word);
         let end = seek_end(table, self.count as usize, word, s);
         match end {
             End::Damage => self.refused(Answer::Damage),
-            End::None => self.grown(table, word, s.row, bits_of(s.mask), Leg { at: s.place(word), above: s.above }),
+            End::None => self.grown(
+                table,
+                word,
+                s.row,
+                bits_of(s.mask),
+                Leg {
+                    at: s.place(word),
+                    above: s.above,
+                },
+            ),
             End::Row(row) => {
                 if row.entry.key == word {
                     return self.answered(Answer::AlreadyThere, self.width - bits_of(s.mask) + 1);
@@ -65,7 +77,10 @@ impl Header {
         ensures { λ r. ⌜ r ≡ addOutcome self (now (table .entry)) word .reply ⌝ }
         ensures { λ _. ⌜ now (table .exit) ≡ addOutcome self (now (table .entry)) word .table ⌝ }
     {
-        let start = Leg { at: at.below(row, own_side(at.mask, row.entry.key)), above: at.row };
+        let start = Leg {
+            at: at.below(row, own_side(at.mask, row.entry.key)),
+            above: at.row,
+        };
         let leg = pushed(table, self.count as usize, start);
         let end = link_end(table, self.count as usize, leg.at);
         if let End::Damage = end {
@@ -86,7 +101,13 @@ impl Header {
         }
         let end = bits_of(leg.at.mask);
         let entry = push(table, from, bits, end, Entry { key: word });
-        hook(table, end < self.width, leg.above, side_of(leg.at, end), self.count);
+        hook(
+            table,
+            end < self.width,
+            leg.above,
+            side_of(leg.at, end),
+            self.count,
+        );
         put_row(
             table,
             self.count as usize,
@@ -118,7 +139,11 @@ fn push(table: &mut [u32], from: usize, bits: u32, end: u32, entry: Entry) -> En
     while end < left {
         left = left - 1;
         let row = row_at(table, at);
-        let next = if (row.entry.key >> left) % 2 == 0 { row.left } else { row.right };
+        let next = if (row.entry.key >> left) % 2 == 0 {
+            row.left
+        } else {
+            row.right
+        };
         put_entry(table, at, carried);
         carried = row.entry;
         at = next as usize;

@@ -58,7 +58,7 @@ hook-requires c κs =
     let b = pushed .before .before in
     let s = b .before .before .before .before .before .before in (
       λ any.
-      rw (same-capacity (pushed .push .last .0) (s .args .table .now) (pushed .push .kept .0)) (growable b .above-used (ltb-true _ _ any)),
+          rw (same-capacity (pushed .push .last .0) (s .args .table .now) (pushed .push .kept .0)) (growable b .above-used (ltb-true _ _ any)),
       omega (arith, c .side-of .ensures),
     )
 
