@@ -12,6 +12,7 @@ pub mod Legs
 pub mod Falling
 pub mod Raising
 pub mod Ended
+pub mod Found
 pub mod Resuming
 pub mod Pushing
 pub mod Adding

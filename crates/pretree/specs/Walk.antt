@@ -266,7 +266,3 @@ downTurn s r =
     if not (eqb (link r s) 0) then to s
     else if not (eqb (link r (other s)) 0) then to (other s)
     else stop
-
--- the walk that begins at the part of a row on a side, with m bits left there
-abbrev pub partStart : ℕ → Row → Side → ℕ → Walk
-partStart count r s m = startedAt count (link r s) m (r .entry .key / 2 ^ suc m * 2 + bitOf s) (suc (r .entry .key))

@@ -13,10 +13,11 @@ use crate::seek::seek_end;
 use crate::seek::sought;
 ghost use mathlib.Core.Path.{_≡_};
 ghost use mathlib.Core.Bool.{false};
-ghost use Prim.Native.Nat.{_+_, _≤_};
-ghost use Rattle.pretree.specs.Reply.{wrong-header, too-wide, refused, answered};
+ghost use Prim.Native.Nat.{_≤_};
+ghost use Rattle.pretree.specs.Table.{rowAt};
+ghost use Rattle.pretree.specs.Reply.{wrong-header, refused, answered};
 ghost use Rattle.pretree.specs.Find.{hasReply, firstReply, lastReply};
-ghost use Rattle.pretree.specs.Found.{foundBy, wordBy};
+ghost use Rattle.pretree.specs.Found.{foundBy, wordBy, GreatestFrom, greatestBy};
 
 impl Header {
     // "1 to 6 and 9 are refusals: counts 0, header, table and buffer untouched."
@@ -58,7 +59,7 @@ impl Header {
         self.found_by(word, end, self.width - bits_of(s.mask))
     }
 
-    // The answer of `has` where the way ended so, after the rows that it passed. A row at which it ends is read too.
+    // The answer of `has`, by the end of the way. `passed` rows were passed; a row at the end counts as one more.
     fn found_by(self, word: u32, end: End, passed: u32) -> Reply
         requires few { ⌜ passed ≤ 32 ⌝ }
         ensures { λ r. ⌜ r ≡ foundBy self word passed end ⌝ }
@@ -76,7 +77,7 @@ impl Header {
         }
     }
 
-    // The word at which a leg ended, after the rows that were read before its last.
+    // The word at which a leg ended. `rows` rows were read before that one.
     pub(crate) fn word_by(self, end: End, rows: u32) -> Reply
         requires few { ⌜ rows ≤ 65 ⌝ }
         ensures { λ r. ⌜ r ≡ wordBy self rows end ⌝ }
@@ -115,8 +116,13 @@ impl Header {
         self.greatest(table, Place::root(self.width), 0)
     }
 
-    // The word at which the leg down from a place by right link, else left link, ends, after the rows that were read before it.
-    pub(crate) fn greatest(self, table: &[u32], at: Place, rows: u32) -> Reply {
+    // The greatest word from a place down: "by right link, else left link, until both are none". `rows` rows were read before.
+    pub(crate) fn greatest(self, table: &[u32], at: Place, rows: u32) -> Reply
+        requires header { ⌜ wrong-header self (now table) ≡ false ⌝ }
+        requires stands { ⌜ GreatestFrom self at ⌝ }
+        requires few { ⌜ rows ≤ 33 ⌝ }
+        ensures { λ r. ⌜ ((g : GreatestFrom self at) → r ≡ greatestBy self (rowAt (now (table .entry))) rows (g .walk)) ⌝ }
+    {
         let leg = down(table, self.count as usize, Leg { at, above: 0 }, 1);
         let end = row_end(table, self.count as usize, leg.at);
         self.word_by(end, rows + bits_of(at.mask) - bits_of(leg.at.mask))

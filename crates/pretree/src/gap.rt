@@ -9,7 +9,7 @@ use crate::seek::seek_end;
 use crate::seek::sought;
 ghost use mathlib.Core.Path.{_≡_};
 ghost use mathlib.Core.Bool.{false};
-ghost use Prim.Native.Nat.{_≤_, _-_, _+_, min};
+ghost use Prim.Native.Nat.{_-_, min};
 ghost use Rattle.pretree.specs.Reply.{wrong-header, too-wide};
 ghost use Rattle.pretree.specs.Find.{gapReply, prevReply, nextReply};
 ghost use Rattle.pretree.specs.Gap.{neighbour, from-below, from-above, between};
