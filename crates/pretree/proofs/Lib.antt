@@ -16,6 +16,8 @@ pub mod Pushing
 pub mod Adding
 pub mod Neighbours
 pub mod Nearest
+pub mod Ends
+pub mod EndKeys
 pub mod Erasing
 pub mod SoundTest
 pub mod Starred
