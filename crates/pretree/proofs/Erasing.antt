@@ -65,6 +65,28 @@ hookAt w width = record { linked = ltb (w .bits) width; above = w .above; side =
 pub hook-is : (p : Place) (w : Walk) (above width : ℕ) → Stands p w → above ≡ w .above → hookOf p (bitsLeft (p .mask)) width above ≡ hookAt w width
 hook-is p w above width st a = rw (bits-stand p w st, st .path, shl-shr (w .path) (w .bits), a)
 
+-- the way of a word was sought, and ended so
+pub record SeekDone (h : Header) (table : List ℕ) (k : ℕ) (s : Seek) (end : End) : Type 0 where
+  pub fine : wrong-header h table ≡ false
+  pub small : too-wide h k ≡ false
+  pub ends : SeekEnds (rowAt table) h (shown h table) k s end
+
+pub seek-done : (h : Header) (table : List ℕ) (k : ℕ) (s : Seek) (end : End) → wrong-header h table ≡ false → too-wide h k ≡ false → 0 < h .count
+    → Sought (rowAt table) h (shown h table) k s → end ≡ endAt (rowAt table) (h .count) k s → SeekDone h table k s end
+seek-done h table k s end fine small some g is =
+    record { fine = fine; small = small; ends = rw is (seek-ends table h k fine small s g some) }
+
+-- its walk is where its numbers say
+module _ {h : Header} {table : List ℕ} {k : ℕ} {s : Seek} {end : End} (q : SeekDone h table k s end) where
+  stands-there : Stands (placeOf s k) (q .ends .walk)
+  stands-there = place-stands table h k (q .fine) (q .small) s end (q .ends)
+
+  bits-there : bitsLeft (s .mask) ≡ q .ends .walk .bits
+  bits-there = bits-stand (placeOf s k) (q .ends .walk) stands-there
+
+  hook-there : hookOf (placeOf s k) (bitsLeft (s .mask)) (h .width) (s .above) ≡ hookAt (q .ends .walk) (h .width)
+  hook-there = hook-is (placeOf s k) (q .ends .walk) (s .above) (h .width) stands-there (q .ends .above)
+
 fewer : (p q : Place) (w v : Walk) → Stands p w → Stands q v → v .bits ≤ w .bits → bitsLeft (q .mask) ≤ bitsLeft (p .mask)
 fewer p q w v at-w at-v h = rw (bits-stand p w at-w, bits-stand q v at-v) h
 
@@ -296,7 +318,7 @@ row-there rows count p w = go (ltb (p .row) count && judges p (rows (p .row)))
     go false so whole = absurd (whole refl)
 
 -- the leg down from k's row, by its numbers
-module _ (h : Header) (table : List ℕ) (fine : wrong-header h table ≡ false) (k : ℕ) (at : Place) (above : ℕ) (found : FoundAt h table k at above) where
+module _ {h : Header} {table : List ℕ} {k : ℕ} {at : Place} {above : ℕ} (fine : wrong-header h table ≡ false) (found : FoundAt h table k at above) where
   abbrev start : Leg
   start = record { at = at; above = above }
 
@@ -319,7 +341,7 @@ module _ (h : Header) (table : List ℕ) (fine : wrong-header h table ≡ false)
   pub begun : BegunLeg (h .count) stageHere start
   begun = record { walk = resumed (found .walk); on = on-leg; stage = wants-row }
 
-  module _ (r : Leg) (g : LegGone (rowAt table) (down left) (h .count) stageHere (passesDown (rowAt table) (h .count)) start r) where
+  module _ {r : Leg} (g : LegGone (rowAt table) (down left) (h .count) stageHere (passesDown (rowAt table) (h .count)) start r) where
     leg-ends : LegEnds (rowAt table) (down left) (h .count) (resumed (found .walk)) r (rowEnd (rowAt table) (h .count) (r .at))
     leg-ends = down-ends (rowAt table) (h .count) 0 start r g (resumed (found .walk)) on-leg wants-row
 
@@ -447,38 +469,31 @@ module _ (h : Header) (table : List ℕ) (fine : wrong-header h table ≡ false)
           hook = λ good needed. hooks-whole h table fine last-key w gone;
         }
 
-  -- the same by the numbers of the seek
-  module _ (x : ℕ) (own : x ≡ last-key) (small : too-wide h x ≡ false) (some : 0 < h .count) (s : Seek) (g : Sought (rowAt table) h (shown h table) x s) where
-    last-ends : SeekEnds (rowAt table) h (shown h table) x s (endAt (rowAt table) (h .count) x s)
-    last-ends = seek-ends table h x fine small s g some
+-- the same by the numbers of the seek of the last row's key x
+module _ {h : Header} {table : List ℕ} {x : ℕ} {s : Seek} {end : End} (q : SeekDone h table x s end) (own : x ≡ rowAt table (pred (h .count)) .entry .key) where
+  abbrev own-key : ℕ
+  own-key = rowAt table (pred (h .count)) .entry .key
 
-    last-walked : Walked (rowAt table) (seeking last-key last-key) (h .width) (h .count) (shown h table) (last-ends .walk)
-    last-walked =
-        subst (λ (k : ℕ). Walked (rowAt table) (seeking k k) (h .width) (h .count) (shown h table) (last-ends .walk)) own (last-ends .walked)
+  last-walked : Walked (rowAt table) (seeking own-key own-key) (h .width) (h .count) (shown h table) (q .ends .walk)
+  last-walked =
+      subst (λ (k : ℕ). Walked (rowAt table) (seeking k k) (h .width) (h .count) (shown h table) (q .ends .walk)) own (q .ends .walked)
 
-    stands : Stands (placeOf s x) (last-ends .walk)
-    stands = place-stands table h x fine small s (endAt (rowAt table) (h .count) x s) last-ends
+  module _ {p : Place} {bits : ℕ} {k : Hook} (at : p ≡ placeOf s x) (left-there : bits ≡ bitsLeft (s .mask)) (hooked : k ≡ hookOf p bits (h .width) (s .above)) where
+    its-hook : k ≡ hookAt (q .ends .walk) (h .width)
+    its-hook = hooked ∙ rw (at, left-there) (hook-there q)
 
-    second-hook : hookOf (placeOf s x) (bitsLeft (s .mask)) (h .width) (s .above) ≡ hookAt (last-ends .walk) (h .width)
-    second-hook = hook-is (placeOf s x) (last-ends .walk) (s .above) (h .width) stands (last-ends .above)
+    its-bits : bits ≡ q .ends .walk .bits
+    its-bits = left-there ∙ bits-there q
 
-    module _ (p : Place) (bits : ℕ) (k : Hook) (at : p ≡ placeOf s x) (left-there : bits ≡ bitsLeft (s .mask)) (hooked : k ≡ hookOf p bits (h .width) (s .above)) where
-      hook-there : k ≡ hookAt (last-ends .walk) (h .width)
-      hook-there = hooked ∙ rw (at, left-there) second-hook
+    pub seek-moves : (ends : Bool) → ends ≡ ends-last (s .row) (h .count - 1) end → (hole : ℕ) → (hole ≡ pred (h .count) → ⊥)
+        → JudgedMove h table hole (record { needed = true; astray = not ends; hook = k; rows = h .width - bits + 1 })
+    seek-moves ends so hole apart =
+        let same-row = ap (λ (i : ℕ). ends-last i (h .count - 1) end) (q .ends .row) in
+        let same-last = ap (λ (n : ℕ). ends-last (q .ends .walk .row) n end) (sub-one (h .count)) in
+        rw (its-hook, its-bits) (last-moves h table (q .fine) (q .ends .walk) last-walked end (q .ends .ends) ends (so ∙ same-row ∙ same-last) hole apart)
 
-      bits-last : bits ≡ last-ends .walk .bits
-      bits-last = left-there ∙ bits-stand (placeOf s x) (last-ends .walk) stands
-
-      pub seek-moves : (end : End) → end ≡ endAt (rowAt table) (h .count) x s → (ends : Bool) → ends ≡ ends-last (s .row) (h .count - 1) end
-          → (hole : ℕ) → (hole ≡ last → ⊥)
-          → JudgedMove h table hole (record { needed = true; astray = not ends; hook = k; rows = h .width - bits + 1 })
-      seek-moves end is ends so hole apart =
-          rw (hook-there, bits-last)
-          (last-moves (last-ends .walk) last-walked end (subst (EndsSo (rowAt table) (last-ends .walk)) (sym is) (last-ends .ends)) ends
-          (so ∙ ap (λ (i : ℕ). ends-last i (h .count - 1) end) (last-ends .row) ∙ ap (λ (n : ℕ). ends-last (last-ends .walk .row) n end) (sub-one (h .count))) hole apart)
-
-      pub seek-hangs : Hangs (capacity table) k
-      seek-hangs = subst (Hangs (capacity table)) (sym hook-there) (hangs-whole h table fine last-key (last-ends .walk) last-walked)
+    pub seek-hangs : Hangs (capacity table) k
+    seek-hangs = subst (Hangs (capacity table)) (sym its-hook) (hangs-whole h table (q .fine) own-key (q .ends .walk) last-walked)
 
 -- one write after the other, each on what the one before it left
 pub writes-empty : (last : ℕ) (hole : Hole) (m : Move) (table : List ℕ) {raised unlinked moved after : List ℕ}
@@ -519,54 +534,6 @@ module _ (h : Header) (table : List ℕ) (k : ℕ) (fine : wrong-header h table 
     not-there ok =
         rw (fine, small, ends-is h table fine k w gone ∙ absent, broken-is h table fine k w gone ∙ ok, rows-are h table fine k w gone)
 
-  -- where the way of k ended, by the numbers of the seek
-  module _ (some : 0 < h .count) (s : Seek) (g : Sought (rowAt table) h (shown h table) k s) (end : End) (is : endAt (rowAt table) (h .count) k s ≡ end) where
-    pub ended : SeekEnds (rowAt table) h (shown h table) k s end
-    ended = subst (λ (e : End). SeekEnds (rowAt table) h (shown h table) k s e) is (seek-ends table h k fine small s g some)
-
-    stands-there : Stands (placeOf s k) (ended .walk)
-    stands-there = place-stands table h k fine small s end ended
-
-    bits-there : bitsLeft (s .mask) ≡ ended .walk .bits
-    bits-there = bits-stand (placeOf s k) (ended .walk) stands-there
-
-    pub seek-damage : end ≡ Ends.Damage → delOutcome h table k ≡ record { reply = refused h Damage; table = table }
-    seek-damage d =
-        let so : ended .walk .stage ≡ AtDamage = subst (EndsSo (rowAt table) (ended .walk)) d (ended .ends) in
-        on-damage (broken-above (ended .walk) (ended .walked) (rw so) ∙ rw so)
-
-    pub seek-none : end ≡ Ends.None → delOutcome h table k ≡ record { reply = answered h NoSuchWord (h .width - bitsLeft (s .mask)); table = table }
-    seek-none n =
-        let so : ended .walk .stage ≡ AtNone = subst (EndsSo (rowAt table) (ended .walk)) n (ended .ends) in
-        let read : rowsRead (ended .walk) (h .width) ≡ h .width - bitsLeft (s .mask) = rw (so, bits-there) (omega arith) in
-        rw (← read) (not-there (ended .walk) (ended .walked) (rw so) (rw so))
-
-    module _ (r : Rows.Row) (at-row-end : end ≡ Ends.Row r) where
-      so-row : EndsSo (rowAt table) (ended .walk) (Ends.Row r)
-      so-row = subst (EndsSo (rowAt table) (ended .walk)) at-row-end (ended .ends)
-
-      pub seek-other : (r .entry .key ≡ k → ⊥)
-          → delOutcome h table k ≡ record { reply = answered h NoSuchWord (h .width - bitsLeft (s .mask) + 1); table = table }
-      seek-other apart =
-          let absent : endsAt k (ended .walk .key) (ended .walk .stage) ≡ false
-          = rw (so-row .0) (ne-eqb k (ended .walk .key) (λ same. apart (sym (same ∙ so-row .2)))) in
-          let read : rowsRead (ended .walk) (h .width) ≡ h .width - bitsLeft (s .mask) + 1 = rw (so-row .0, bits-there) in
-          rw (← read) (not-there (ended .walk) (ended .walked) absent (rw (so-row .0)))
-
-      module _ (same : r .entry .key ≡ k) where
-        pub found-at : FoundAt h table k (placeOf s k) (s .above)
-        found-at =
-            record {
-              walk = ended .walk;
-              walked = ended .walked;
-              there = rw (so-row .0) (eq-eqb k (ended .walk .key) (sym (so-row .2 ∙ same)));
-              stands = stands-there;
-              above = ended .above;
-            }
-
-        pub key-there : rowAt table (s .row) .entry .key ≡ k
-        key-there = rw (ended .row, ← so-row .1) same
-
   module _ (hole : Hole) (m : Move) (e : JudgedStretch change table hole) (v : JudgedMove h table (hole .row) m) where
     moves-is : not (eqb (change .hole) (pred (h .count))) ≡ m .needed
     moves-is = rw (e .row) (sym (v .needed))
@@ -596,3 +563,45 @@ module _ (h : Header) (table : List ℕ) (k : ℕ) (fine : wrong-header h table 
           }
       unfolding delOutcome
       on-done = rw (moves-is, left-is, fine, small, e .whole, e .present, ← v .astray, good, e .rows, ← v .rows good)
+
+-- where the way of k ended, by the numbers of the seek
+module _ {h : Header} {table : List ℕ} {k : ℕ} {s : Seek} {end : End} (q : SeekDone h table k s end) where
+  so-ended : (e : End) → end ≡ e → EndsSo (rowAt table) (q .ends .walk) e
+  so-ended e is = subst (EndsSo (rowAt table) (q .ends .walk)) is (q .ends .ends)
+
+  pub seek-damage : end ≡ Ends.Damage → delOutcome h table k ≡ record { reply = refused h Damage; table = table }
+  seek-damage is =
+      let so : q .ends .walk .stage ≡ AtDamage = so-ended Ends.Damage is in
+      on-damage h table k (q .fine) (q .small) (broken-above h table k (q .fine) (q .small) (q .ends .walk) (q .ends .walked) (rw so) ∙ rw so)
+
+  pub seek-none : end ≡ Ends.None → delOutcome h table k ≡ record { reply = answered h NoSuchWord (h .width - bitsLeft (s .mask)); table = table }
+  seek-none is =
+      let so : q .ends .walk .stage ≡ AtNone = so-ended Ends.None is in
+      let read : rowsRead (q .ends .walk) (h .width) ≡ h .width - bitsLeft (s .mask) = rw (so, bits-there q) (omega arith) in
+      rw (← read) (not-there h table k (q .fine) (q .small) (q .ends .walk) (q .ends .walked) (rw so) (rw so))
+
+  module _ {r : Rows.Row} (is : end ≡ Ends.Row r) where
+    so-row : EndsSo (rowAt table) (q .ends .walk) (Ends.Row r)
+    so-row = so-ended (Ends.Row r) is
+
+    pub seek-other : (r .entry .key ≡ k → ⊥)
+        → delOutcome h table k ≡ record { reply = answered h NoSuchWord (h .width - bitsLeft (s .mask) + 1); table = table }
+    seek-other apart =
+        let absent : endsAt k (q .ends .walk .key) (q .ends .walk .stage) ≡ false
+        = rw (so-row .0) (ne-eqb k (q .ends .walk .key) (λ same. apart (sym (same ∙ so-row .2)))) in
+        let read : rowsRead (q .ends .walk) (h .width) ≡ h .width - bitsLeft (s .mask) + 1 = rw (so-row .0, bits-there q) in
+        rw (← read) (not-there h table k (q .fine) (q .small) (q .ends .walk) (q .ends .walked) absent (rw (so-row .0)))
+
+    module _ (same : r .entry .key ≡ k) where
+      pub found-at : FoundAt h table k (placeOf s k) (s .above)
+      found-at =
+          record {
+            walk = q .ends .walk;
+            walked = q .ends .walked;
+            there = rw (so-row .0) (eq-eqb k (q .ends .walk .key) (sym (so-row .2 ∙ same)));
+            stands = stands-there q;
+            above = q .ends .above;
+          }
+
+      pub key-there : rowAt table (s .row) .entry .key ≡ k
+      key-there = rw (q .ends .row, ← so-row .1) same

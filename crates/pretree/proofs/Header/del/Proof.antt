@@ -5,13 +5,12 @@ use mathlib.Core.Bool.{false}
 use native.Mathlib.Nat.{pos-of-ne-zero}
 use Rattle.pretree.specs.Table.{rowAt}
 use Rattle.pretree.specs.Reply.{wrong-header, too-wide}
-use Rattle.pretree.specs.Seek.{endAt}
 use Rattle.pretree.specs.Del.{delOutcome}
 use Rattle.pretree.specs.Add.{Outcome}
 use Rattle.pretree.specs.Found.{refusal}
 use Rattle.pretree.proofs.Checks.{right-header, chosen, not-refused}
 use Rattle.pretree.proofs.Sought.{tail-few, tail-less, between-few, mask-few}
-use Rattle.pretree.proofs.Erasing.{on-empty, seek-damage, seek-none, seek-other, found-at, key-there}
+use Rattle.pretree.proofs.Erasing.{SeekDone, seek-done, on-empty, seek-damage, seek-none, seek-other, found-at, key-there}
 use borrow.Author.Needs.{needs}
 use Rattle.pretree.proofs.Header.del.Statement.{statement}
 use Rattle.pretree.proofs.Header.del.Tie as tie
@@ -40,10 +39,27 @@ start-of c = begin (unrefused c .before)
 abbrev seek-of : tie.After-seek-end → tie.After-sought
 seek-of c = c .before .before .before
 
-end-is : (c : tie.After-seek-end)
-    → let a = start-of (seek-of c) .args in
-    endAt (rowAt (a .table .now)) (a .self .count) (a .word) (seek-of c .sought .result) ≡ c .seek-end .result
-end-is c = sym (c .seek-end .ensures)
+-- the seek by its numbers: the call's table, header and word, and what it said
+way-of : (c : tie.After-seek-end)
+    → let a = start-of (seek-of c) .args in SeekDone (a .self) (a .table .now) (a .word) (seek-of c .sought .result) (c .seek-end .result)
+way-of c =
+    let here = seek-of c in
+    let a = start-of here .args in
+    let known = fine (unrefused here) in
+    seek-done (a .self) (a .table .now) (a .word) (here .sought .result) (c .seek-end .result) (known .0) (known .1) (some (here .before .before)) (here .sought .ensures) (c .seek-end .ensures)
+
+-- the row at which it ended
+abbrev end-of : tie.At-match-keys3 → tie.After-seek-end
+end-of c = c .before .before .before
+
+abbrev row-of : tie.After-struct-known4 → tie.After-end
+row-of c = c .before .before
+
+key-is : (c : tie.Then3)
+    → let end = end-of (row-of (c .before) .before) in
+    let a = start-of (seek-of end) .args in
+    rowAt (a .table .now) (seek-of end .sought .result .row) .entry .key ≡ a .word
+key-is c = let row = row-of (c .before) in key-there (way-of (end-of (row .before))) (row .end .given .1) (c .if3 .taken)
 
 refuses-requires : tie.Need-refuses-requires
 refuses-requires c κs = search needs
@@ -120,7 +136,7 @@ enum-known-end c = search needs
 
 place-requires : tie.Need-place-requires
 place-requires c κs =
-    let here = seek-of (c .before .before .before .before .before .before .before .before) in
+    let here = seek-of (end-of (row-of (c .before .before) .before)) in
     let a = start-of here .args in
     let known = fine (unrefused here) in
     (
@@ -131,19 +147,9 @@ place-requires c κs =
 erased-requires : tie.Need-erased-requires
 erased-requires c κs =
     let found = c .before .before in
-    let row = found .before .before .before in
-    let end = row .before .before .before .before in
-    let here = seek-of end in
-    let a = start-of here .args in
-    let known = fine (unrefused here) in
-    let key = key-there (a .self) (a .table .now) (a .word) (known .0) (known .1) (some (here .before .before)) (here .sought .result) (here .sought .ensures) (end .seek-end .result) (end-is end) _ (row .end .given .1) (found .if3 .taken) in
-    rw (c .place .ensures, key) (
-      known .0,
-      (
-        known .1,
-        found-at (a .self) (a .table .now) (a .word) (known .0) (known .1) (some (here .before .before)) (here .sought .result) (here .sought .ensures) (end .seek-end .result) (end-is end) _ (row .end .given .1) (found .if3 .taken),
-      ),
-    )
+    let row = row-of (found .before) in
+    let done = way-of (end-of (row .before)) in
+    rw (c .place .ensures, key-is found) (done .fine, (done .small, found-at done (row .end .given .1) (found .if3 .taken)))
 
 same-length-3 : tie.Need-same-length-3
 same-length-3 c = search needs
@@ -151,18 +157,11 @@ same-length-3 c = search needs
 returns-3 : tie.Need-returns-3
 returns-3 c =
     let place = c .before .before .before in
-    let found = place .before .before in
-    let row = found .before .before .before in
-    let end = row .before .before .before .before in
-    let here = seek-of end in
-    let a = start-of here .args in
-    let known = fine (unrefused here) in
-    let key = key-there (a .self) (a .table .now) (a .word) (known .0) (known .1) (some (here .before .before)) (here .sought .result) (here .sought .ensures) (end .seek-end .result) (end-is end) _ (row .end .given .1) (found .if3 .taken) in
-    rw (place .place .ensures, key) at (c .before .before .erased .ensures)
+    rw (place .place .ensures, key-is (place .before .before)) at (c .before .before .erased .ensures)
 
 add-answered : tie.Need-add-answered
 add-answered c =
-    let here = seek-of (c .before .before .before .before .before .before .before) in
+    let here = seek-of (end-of (row-of (c .before) .before)) in
     let a = start-of here .args in
     let small = right-header (a .self) (a .table .now) (fine (unrefused here) .0) .at-most-32 in
     search needs
@@ -175,11 +174,7 @@ same-length-4 c = search needs
 
 returns-4 : tie.Need-returns-4
 returns-4 c =
-    let end = c .before .before .before .before .before in
-    let here = seek-of end in
-    let a = start-of here .args in
-    let known = fine (unrefused here) in
-    let outcome = seek-damage (a .self) (a .table .now) (a .word) (known .0) (known .1) (some (here .before .before)) (here .sought .result) (here .sought .ensures) (end .seek-end .result) (end-is end) (c .before .enum-told .given .1) in
+    let outcome = seek-damage (way-of (c .before .before .before .before .before)) (c .before .enum-told .given .1) in
     rw outcome (c .refused .ensures, refl)
 
 same-length-5 : tie.Need-same-length-5
@@ -188,11 +183,7 @@ same-length-5 c = search needs
 returns-5 : tie.Need-returns-5
 returns-5 c =
     let bits = c .before .before .before .before in
-    let end = bits .before in
-    let here = seek-of end in
-    let a = start-of here .args in
-    let known = fine (unrefused here) in
-    let outcome = seek-none (a .self) (a .table .now) (a .word) (known .0) (known .1) (some (here .before .before)) (here .sought .result) (here .sought .ensures) (end .seek-end .result) (end-is end) (c .before .enum-told2 .given .1) in
+    let outcome = seek-none (way-of (bits .before)) (c .before .enum-told2 .given .1) in
     rw (outcome, ← bits .bits-of .ensures) (c .answered2 .ensures, refl)
 
 same-length-6 : tie.Need-same-length-6
@@ -200,14 +191,9 @@ same-length-6 c = search needs
 
 returns-6 : tie.Need-returns-6
 returns-6 c =
-    let other = c .before in
-    let row = other .before .before .before in
+    let row = row-of (c .before .before) in
     let bits = row .before .before .before in
-    let end = bits .before in
-    let here = seek-of end in
-    let a = start-of here .args in
-    let known = fine (unrefused here) in
-    let outcome = seek-other (a .self) (a .table .now) (a .word) (known .0) (known .1) (some (here .before .before)) (here .sought .result) (here .sought .ensures) (end .seek-end .result) (end-is end) _ (row .end .given .1) (other .if3 .left) in
+    let outcome = seek-other (way-of (bits .before)) (row .end .given .1) (c .before .if3 .left) in
     rw (outcome, ← bits .bits-of .ensures) (c .answered3 .ensures, refl)
 
 pub del-spec : {M : Type 1} → statement M

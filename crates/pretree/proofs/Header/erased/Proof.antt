@@ -30,7 +30,7 @@ down-requires c κs =
     let a = start .args in
     (
       right-header (a .self) (a .table .now) (start .pre .0) .has-room,
-      (omega arith, begun (a .self) (a .table .now) (start .pre .0) _ (a .at) (a .above) (start .pre .1 .1)),
+      (omega arith, begun (start .pre .0) (start .pre .1 .1)),
     )
 
 cast-row-end : tie.Need-cast-row-end
@@ -56,7 +56,7 @@ returns c =
     let leg = leg-of end in
     let start = begin leg in
     let a = start .args in
-    let broken = damaged-below (a .self) (a .table .now) (start .pre .0) _ (a .at) (a .above) (start .pre .1 .1) (leg .down .result) (leg .down .ensures)
+    let broken = damaged-below (start .pre .0) (start .pre .1 .1) (leg .down .ensures)
     (sym (end .row-end .ensures) ∙ c .before .enum-told .given .1) in
     let outcome = on-damage (a .self) (a .table .now) _ (start .pre .0) (start .pre .1 .0) broken in
     rw outcome (c .refused .ensures, refl)
@@ -78,7 +78,7 @@ few : (leg : tie.After-down) → bitsLeft (leg .down .result .at .mask) ≤ begi
 few leg =
     let start = begin leg in
     let a = start .args in
-    few-bits (a .self) (a .table .now) (start .pre .0) _ (a .at) (a .above) (start .pre .1 .1) (leg .down .result) (leg .down .ensures)
+    few-bits (start .pre .0) (start .pre .1 .1) (leg .down .ensures)
 
 width-few : (leg : tie.After-down) → begin leg .args .self .width ≤ 32
 width-few leg = right-header (begin leg .args .self) (begin leg .args .table .now) (begin leg .pre .0) .at-most-32
@@ -90,7 +90,7 @@ sub-t17 c =
     let start = begin leg in
     let a = start .args in
     rw (c .bits-of2 .ensures, c .before .bits-of .ensures)
-    (falls (a .self) (a .table .now) (start .pre .0) _ (a .at) (a .above) (start .pre .1 .1) (leg .down .result) (leg .down .ensures) (whole there))
+    (falls (start .pre .0) (start .pre .1 .1) (leg .down .ensures) (whole there))
 
 hook-of-requires : tie.Need-hook-of-requires
 hook-of-requires c κs =
@@ -118,10 +118,10 @@ filled-requires c κs =
       (
         start .pre .1 .0,
         (
-          some-rows (a .self) (a .table .now) (start .pre .0) _ (a .at) (a .above) (start .pre .1 .1),
+          some-rows (start .pre .0) (start .pre .1 .1),
           (
-            judged-stretch (a .self) (a .table .now) (start .pre .0) _ (a .at) (a .above) (start .pre .1 .1) (leg .down .result) (leg .down .ensures) (whole there),
-            within (a .self) (a .table .now) (start .pre .0) _ (a .at) (a .above) (start .pre .1 .1) (leg .down .result) (leg .down .ensures) (whole there),
+            judged-stretch (start .pre .0) (start .pre .1 .1) (leg .down .ensures) (whole there),
+            within (start .pre .0) (start .pre .1 .1) (leg .down .ensures) (whole there),
           ),
         ),
       ),

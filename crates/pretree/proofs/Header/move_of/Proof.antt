@@ -13,7 +13,7 @@ use Rattle.pretree.specs.Reply.{too-wide}
 use Rattle.pretree.specs.Seek.{bitsLeft, endAt, Sought}
 use Rattle.pretree.proofs.Checks.{right-header}
 use Rattle.pretree.proofs.Sought.{tail-few, tail-less, between-few, mask-few}
-use Rattle.pretree.proofs.Erasing.{ends-last, is-last, no-last, nothing-moves, wide-moves, seek-moves, seek-hangs}
+use Rattle.pretree.proofs.Erasing.{ends-last, is-last, no-last, nothing-moves, wide-moves, seek-done, seek-moves, seek-hangs}
 use Rattle.pretree.proofs.Ends.{not-row}
 use borrow.Author.Needs.{needs}
 use Rattle.pretree.proofs.Header.move_of.Statement.{statement}
@@ -146,13 +146,14 @@ returns-3 c =
     let row = here .before .before .before in
     let start = start-of here in
     let a = start .args in
-    let place = c .before .before .place in
-    let bits = came .before .bits-of in
-    let hook = c .before .hook-of in
     let end = came .before .before .seek-end in
+    let done = seek-done (a .self) (a .table .now) (row .row-at .result .entry .key) (here .sought .result) (end .result) (start .pre .0) (narrow (here .before)) (start .pre .1) (here .sought .ensures) (end .ensures) in
+    let place = c .before .before .place .ensures in
+    let bits = came .before .bits-of .ensures in
+    let hook = c .before .hook-of .ensures in
     (
-      seek-moves (a .self) (a .table .now) (start .pre .0) (row .row-at .result .entry .key) (key-is row) (narrow (here .before)) (start .pre .1) (here .sought .result) (here .sought .ensures) (place .result) (bits .result) (hook .result) (place .ensures) (bits .ensures) (hook .ensures) (end .result) (end .ensures) (came .match .ends) (ends-so came) (a .hole) (apart (row .before)),
-      seek-hangs (a .self) (a .table .now) (start .pre .0) (row .row-at .result .entry .key) (key-is row) (narrow (here .before)) (start .pre .1) (here .sought .result) (here .sought .ensures) (place .result) (bits .result) (hook .result) (place .ensures) (bits .ensures) (hook .ensures),
+      seek-moves done (key-is row) place bits hook (came .match .ends) (ends-so came) (a .hole) (apart (row .before)),
+      seek-hangs done (key-is row) place bits hook,
     )
 
 pub move-of-spec : {M : Type 1} → statement M
