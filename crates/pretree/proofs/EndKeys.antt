@@ -1,6 +1,6 @@
 -- The key at which a way over a table ends has W bits: a row with another key is damage. So a number of 2^W or more is the end of no way.
 use Prim.Native.Nat.{ℕ, zero, suc, _*_, _+_, _/_, _^_, _≤_}
-use mathlib.Core.Path.{_≡_, refl, sym, _∙_}
+use mathlib.Core.Path.{_≡_, refl}
 use mathlib.Core.Bool.{Bool, true, false}
 use mathlib.Core.List.{List}
 use native.Mathlib.Omega.{arith}
@@ -8,20 +8,20 @@ use lib.Dec.{eqb}
 use borrow.Author.Tests.{ne-eqb, leb-true}
 use Rattle.ordered.specs.Such.{if_then_else_, Perhaps, no-such, such, only-if}
 use Rattle.ordered.specs.Word.{Side, left, right, bitOf}
-use Rattle.ordered.specs.Tree.{Tree, none, row, damaged}
-use Rattle.ordered.specs.Way.{Way, Rule, Turn, way, turning, stop, to}
+use Rattle.ordered.specs.Tree.{none}
+use Rattle.ordered.specs.Way.{Rule, Turn, way, turning, stop, to}
 use Rattle.ordered.specs.Reading.{keyAt}
 use Rattle.ordered.specs.Change.{isThere, ends-at}
 use Rattle.ordered.proofs.Parts.{If-such}
 use Rattle.ordered.proofs.Bits.{from-part, on-root-path}
 use Rattle.pretree.specs.declared.Header.{Header}
 use Rattle.pretree.specs.declared.Row.{Row}
-use Rattle.pretree.specs.Table.{rowAt, link}
+use Rattle.pretree.specs.Table.{rowAt}
 use Rattle.pretree.specs.Unfold.{judged, linked, unfolded, shown}
 use Rattle.pretree.specs.Reply.{too-wide}
 use Rattle.pretree.specs.Walk.{below}
 use Rattle.pretree.proofs.Unfolding.{path-in-key, is-damaged, is-row}
-use Rattle.pretree.proofs.Walking.{at-none, at-damage}
+use Rattle.pretree.proofs.Walking.{at-none}
 
 -- the key is on the path with m bits left
 abbrev OnPath : ℕ → ℕ → ℕ → Type 0

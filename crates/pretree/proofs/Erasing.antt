@@ -14,7 +14,7 @@ use borrow.Author.Tests.{lt-ltb, eq-eqb, ne-eqb, eqb-true}
 use Rattle.ordered.specs.Such.{if_then_else_, Perhaps, anything}
 use Rattle.ordered.specs.Word.{left, sideOf}
 use Rattle.ordered.specs.Tree.{Tree, none}
-use Rattle.ordered.specs.Way.{Way, Step, Rule, way, joined, broken, isDamaged, following, down}
+use Rattle.ordered.specs.Way.{Way, Step, way, joined, broken, isDamaged, following, down}
 use Rattle.ordered.specs.Way as Ways
 use Rattle.ordered.specs.Change.{Erasing, erasing, erasing-by, ends-at, numberAt, above-end}
 use Rattle.ordered.proofs.Parts.{All, all-append, If-such, last-such-one}
@@ -39,8 +39,7 @@ use Rattle.pretree.specs.Leg.{judges, rowEnd, EndsSo, Stands, OnLeg, Goe
 use Rattle.pretree.specs.Add.{taking, hooking}
 use Rattle.pretree.specs.Del.{secondWay, astray, moving, shrunk, delOutcome}
 use Rattle.pretree.specs.Resume.{isDamage, endsAt, again, resumed, Going}
-use Rattle.pretree.specs.Erased.{FoundAt, hookOf, hookedAt, SameHook, Hangs, raising, JudgedStretch, JudgedMove, Within, filled, emptied}
-use Rattle.pretree.proofs.Checks.{right-header}
+use Rattle.pretree.specs.Erased.{RowOfKey, hookOf, hookedAt, SameHook, Hangs, raising, JudgedStretch, JudgedMove, Within, filled, emptied}
 use Rattle.pretree.proofs.Unfolding.{is-row}
 use Rattle.pretree.proofs.Walking.{at-none}
 use Rattle.pretree.proofs.Between.{bits-are}
@@ -318,7 +317,7 @@ row-there rows count p w = go (ltb (p .row) count && judges p (rows (p .row)))
     go false so whole = absurd (whole refl)
 
 -- the leg down from k's row, by its numbers
-module _ {h : Header} {table : List ℕ} {k : ℕ} {at : Place} {above : ℕ} (fine : wrong-header h table ≡ false) (found : FoundAt h table k at above) where
+module _ {h : Header} {table : List ℕ} {k : ℕ} {at : Place} {above : ℕ} (fine : wrong-header h table ≡ false) (found : RowOfKey h table k at above) where
   abbrev start : Leg
   start = record { at = at; above = above }
 
@@ -593,8 +592,8 @@ module _ {h : Header} {table : List ℕ} {k : ℕ} {s : Seek} {end : End} (q : S
         rw (← read) (not-there h table k (q .fine) (q .small) (q .ends .walk) (q .ends .walked) absent (rw (so-row .0)))
 
     module _ (same : r .entry .key ≡ k) where
-      pub found-at : FoundAt h table k (placeOf s k) (s .above)
-      found-at =
+      pub row-of-key : RowOfKey h table k (placeOf s k) (s .above)
+      row-of-key =
           record {
             walk = q .ends .walk;
             walked = q .ends .walked;

@@ -16,7 +16,7 @@ pub mod Pushing
 pub mod Adding
 pub mod Neighbours
 pub mod Nearest
-pub mod Ends
+pub mod EndTags
 pub mod EndKeys
 pub mod Erasing
 pub mod SoundTest

@@ -27,15 +27,15 @@ use Rattle.pretree.specs.Del.{secondWay, astray}
 abbrev pub keyIn : List ℕ → ℕ → ℕ
 keyIn table i = rowAt table i .entry .key
 
--- the way of k ended at k's row, which stands there
-pub record FoundAt (h : Header) (table : List ℕ) (k : ℕ) (at : Place) (row-above : ℕ) : Type 0 where
+-- the way of k ended at k's row: a walk that has gone it stands at that place, below that row
+pub record RowOfKey (h : Header) (table : List ℕ) (k : ℕ) (at : Place) (row-above : ℕ) : Type 0 where
   pub walk : Walk
   pub walked : Walked (rowAt table) (seeking k k) (h .width) (h .count) (shown h table) walk
   pub there : endsAt k (walk .key) (walk .stage) ≡ true
   pub stands : Stands at walk
   pub above : row-above ≡ walk .above
 
--- where a place with so many bits left is linked, if the root has `width`: the row above it, and the last bit of the path
+-- where a place with `bits` left is linked, if the root has `width`: below the row above, on the side that the last bit of the path says
 abbrev pub hookOf : Place → ℕ → ℕ → ℕ → Hook
 hookOf at bits width above = record { linked = ltb bits width; above = above; side = at .path / 2 ^ bits % 2 }
 
@@ -54,7 +54,7 @@ Hangs n k = (k .linked ≡ true → k .above < n) × (k .side < 2)
 abbrev pub beneath : Row → ℕ
 beneath r = if not (eqb (r .left) 0) then r .left else r .right
 
--- "each row taking the key below": so many rows from row i down
+-- "each row taking the key below": s rows from row i down
 unfoldable pub raising : (ℕ → Row) → ℕ → ℕ → List Take
 raising rows zero i = []
 raising rows (suc s) i =

@@ -28,7 +28,7 @@ ghost use Rattle.pretree.specs.Unfold.{shown};
 ghost use Rattle.pretree.specs.Reply.{wrong-header, too-wide};
 ghost use Rattle.pretree.specs.Add.{taking};
 ghost use Rattle.pretree.specs.Del.{delOutcome};
-ghost use Rattle.pretree.specs.Erased.{keyIn, hookOf, FoundAt, JudgedStretch, JudgedMove, Hangs, raising, Rises, Within, filled, emptied};
+ghost use Rattle.pretree.specs.Erased.{keyIn, hookOf, RowOfKey, JudgedStretch, JudgedMove, Hangs, raising, Rises, Within, filled, emptied};
 
 // Where the end of a way is linked: the row above it, and the side to which the way turned there. The root is linked nowhere.
 pub struct Hook {
@@ -37,7 +37,8 @@ pub struct Hook {
     pub side: u32,
 }
 
-// The stretch of an erase, judged: from k's row so many steps down to the hole; and the rows read, those of the way of k too.
+// The stretch of an erase, judged: from row `from`, which is k's, `steps` rows down to the hole; where the hole is linked; and all the rows
+// read, those of the way of k too.
 pub struct Hole {
     pub from: usize,
     pub steps: u32,
@@ -46,7 +47,8 @@ pub struct Hole {
     pub rows: u32,
 }
 
-// The move of the last row, judged: whether there is one, whether its way goes astray, where its row is linked, and its rows.
+// The move of the last row, judged: whether there is one, whether the last row's way goes astray, where the row is linked, and the rows of
+// that way.
 pub struct Move {
     pub needed: bool,
     pub astray: bool,
@@ -81,11 +83,11 @@ impl Header {
         }
     }
 
-    // The way of k ended at k's row, which stands there: the stretch below is judged.
+    // The way of k ended at k's row, at that place below the row `above`. The stretch below is judged.
     fn erased(self, table: &mut [u32], at: Place, above: usize) -> Reply
         requires header { ⌜ wrong-header self (now table) ≡ false ⌝ }
         requires width { ⌜ too-wide self (keyIn (now table) (at .row)) ≡ false ⌝ }
-        requires found { ⌜ FoundAt self (now table) (keyIn (now table) (at .row)) at above ⌝ }
+        requires found { ⌜ RowOfKey self (now table) (keyIn (now table) (at .row)) at above ⌝ }
         ensures reply { λ r. ⌜ r ≡ delOutcome self (now (table .entry)) (keyIn (now (table .entry)) (at .row)) .reply ⌝ }
         ensures table { λ r. ⌜ now (table .exit) ≡ delOutcome self (now (table .entry)) (keyIn (now (table .entry)) (at .row)) .table ⌝ }
     {
@@ -133,7 +135,7 @@ impl Header {
     }
 
     // "a second way, the way of the last row's key on the table as it was before the call, gives the link to be set"
-    // A key of 2^W or more is no word: no way ends at it.
+    // The way of a key of 2^W or more goes astray: no row that is no damage has such a key. `sought` asks for a word.
     fn move_of(self, table: &[u32], hole: usize) -> Move
         requires header { ⌜ wrong-header self (now table) ≡ false ⌝ }
         requires some { ⌜ 0 < self .count ⌝ }
@@ -216,7 +218,7 @@ fn raise(table: &mut [u32], from: usize, steps: u32)
     }
 }
 
-// Where a place with so many bits left is linked, below the row `above`.
+// Where a place is linked that has `bits` left: nowhere at the root, else below the row `above`.
 fn hook_of(at: Place, bits: u32, width: u32, above: usize) -> Hook
     requires narrow { ⌜ bits ≤ 32 ⌝ }
     ensures { λ r. ⌜ r ≡ hookOf at bits width above ⌝ }

@@ -1,5 +1,5 @@
 -- The checks of document 01's order; then the way of k, and the answer 8 where it doesn't end at k.
-use Prim.Native.Nat.{_≤_, _<_}
+use Prim.Native.Nat.{_<_}
 use mathlib.Core.Path.{_≡_, refl, sym, ap, _∙_}
 use mathlib.Core.Bool.{false}
 use native.Mathlib.Nat.{pos-of-ne-zero}
@@ -10,7 +10,7 @@ use Rattle.pretree.specs.Add.{Outcome}
 use Rattle.pretree.specs.Found.{refusal}
 use Rattle.pretree.proofs.Checks.{right-header, chosen, not-refused}
 use Rattle.pretree.proofs.Sought.{tail-few, tail-less, between-few, mask-few}
-use Rattle.pretree.proofs.Erasing.{SeekDone, seek-done, on-empty, seek-damage, seek-none, seek-other, found-at, key-there}
+use Rattle.pretree.proofs.Erasing.{SeekDone, seek-done, on-empty, seek-damage, seek-none, seek-other, row-of-key, key-there}
 use borrow.Author.Needs.{needs}
 use Rattle.pretree.proofs.Header.del.Statement.{statement}
 use Rattle.pretree.proofs.Header.del.Tie as tie
@@ -149,7 +149,7 @@ erased-requires c κs =
     let found = c .before .before in
     let row = row-of (found .before) in
     let done = way-of (end-of (row .before)) in
-    rw (c .place .ensures, key-is found) (done .fine, (done .small, found-at done (row .end .given .1) (found .if3 .taken)))
+    rw (c .place .ensures, key-is found) (done .fine, (done .small, row-of-key done (row .end .given .1) (found .if3 .taken)))
 
 same-length-3 : tie.Need-same-length-3
 same-length-3 c = search needs

@@ -8,7 +8,7 @@ use Rattle.pretree.specs.Table.{rowAt}
 use Rattle.pretree.specs.Seek.{bitsLeft}
 use Rattle.pretree.specs.Leg.{rowEnd}
 use Rattle.pretree.proofs.Checks.{right-header}
-use Rattle.pretree.proofs.Ends.{not-damage}
+use Rattle.pretree.proofs.EndTags.{not-damage}
 use Rattle.pretree.proofs.Erasing.{begun, some-rows, few-bits, falls, damaged-below, judged-stretch, within, on-damage}
 use borrow.Author.Needs.{needs}
 use Rattle.pretree.proofs.Header.erased.Statement.{statement}

@@ -1,6 +1,6 @@
 -- Nothing moves; or the last key is no word; or the seek that went the second way says where it ended.
 use Prim.Native.Nat.{ℕ, pred, _-_, _≤_}
-use mathlib.Core.Path.{_≡_, refl, sym, ap, _∙_}
+use mathlib.Core.Path.{_≡_, sym, ap, _∙_}
 use mathlib.Core.Bool.{false, true≢false}
 use mathlib.Core.Logic.{⊎-elim}
 use native.Mathlib.Nat.{le-trans}
@@ -8,13 +8,12 @@ use native.Mathlib.Omega.{arith}
 use native.Mathlib.Numerals.{sub-one}
 use Rattle.pretree.specs.declared.Row.{Row}
 use Rattle.pretree.specs.Table.{rowAt}
-use Rattle.pretree.specs.Unfold.{shown}
 use Rattle.pretree.specs.Reply.{too-wide}
-use Rattle.pretree.specs.Seek.{bitsLeft, endAt, Sought}
+use Rattle.pretree.specs.Seek.{bitsLeft}
 use Rattle.pretree.proofs.Checks.{right-header}
 use Rattle.pretree.proofs.Sought.{tail-few, tail-less, between-few, mask-few}
 use Rattle.pretree.proofs.Erasing.{ends-last, is-last, no-last, nothing-moves, wide-moves, seek-done, seek-moves, seek-hangs}
-use Rattle.pretree.proofs.Ends.{not-row}
+use Rattle.pretree.proofs.EndTags.{not-row}
 use borrow.Author.Needs.{needs}
 use Rattle.pretree.proofs.Header.move_of.Statement.{statement}
 use Rattle.pretree.proofs.Header.move_of.Tie as tie

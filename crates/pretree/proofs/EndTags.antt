@@ -1,14 +1,13 @@
 -- The tags of how a leg ended, as a `match` tells them: 0 is an empty link, 1 a row, 2 damage.
 use Prim.Native.Nat.{ℕ}
-use mathlib.Core.Path.{_≡_, refl, sym}
-use mathlib.Core.Bool.{false}
+use mathlib.Core.Path.{_≡_}
 use mathlib.Core.List.{[], _∷_}
 use mathlib.Core.Logic.{inl, inr}
 use native.Mathlib.Omega.{arith}
 use denote.Enum.Declared.{tagOf}
 use types.Run.{OneOf}
 use Rattle.pretree.specs.declared.leg.End.{End}
-use Rattle.pretree.specs.declared.leg.End.the-variants.{None, Row, Damage}
+use Rattle.pretree.specs.declared.leg.End.the-variants.{Row, Damage}
 use Rattle.pretree.proofs.leg.End.{the-type}
 
 not-two : (tag : ℕ) → OneOf (0 ∷ 1 ∷ []) tag → tag ≡ 2 → ⊥
