@@ -53,10 +53,10 @@ module _ (rows : ℕ → Row) (f : Rule) (n : ℕ) where
           → If-such (OnPath (suc m) (rows i .entry .key / 2 ^ suc m))
           (keyAt (turning (way f m) m i (record { key = rows i .entry .key }) (below rows n (suc m) i left) (below rows n (suc m) i right) t .end))
       by-turn rest stop = refl
-      by-turn rest (to left) = 
+      by-turn rest (to left) =
           from-below m (rows i .entry .key / 2 ^ suc m) left (keyAt (way f m (below rows n (suc m) i left) .end))
           (by-link rest (rows i .entry .key / 2 ^ suc m * 2 + bitOf left) (suc (rows i .entry .key)) (rows i .left))
-      by-turn rest (to right) = 
+      by-turn rest (to right) =
           from-below m (rows i .entry .key / 2 ^ suc m) right (keyAt (way f m (below rows n (suc m) i right) .end))
           (by-link rest (rows i .entry .key / 2 ^ suc m * 2 + bitOf right) (suc (rows i .entry .key)) (rows i .right))
 

@@ -53,7 +53,7 @@ use Rattle.pretree.proofs.Raising.{Stretch, stretch}
 use Rattle.pretree.proofs.EndKeys.{no-such-end}
 
 -- the bits left at a place are those of the walk there
-pub bits-stand : (p : Place) (w : Walk) → Stands p w → bitsLeft (p .mask) ≡ w .bits
+bits-stand : (p : Place) (w : Walk) → Stands p w → bitsLeft (p .mask) ≡ w .bits
 bits-stand p w st = rw (st .mask) (bits-are (w .bits) (st .few))
 
 -- where the end of a walk is linked, from a root with so many bits left
@@ -61,7 +61,7 @@ abbrev hookAt : Walk → ℕ → Hook
 hookAt w width = record { linked = ltb (w .bits) width; above = w .above; side = w .path % 2 }
 
 -- the numbers of its place say so: the side is the last bit of the path
-pub hook-is : (p : Place) (w : Walk) (above width : ℕ) → Stands p w → above ≡ w .above → hookOf p (bitsLeft (p .mask)) width above ≡ hookAt w width
+hook-is : (p : Place) (w : Walk) (above width : ℕ) → Stands p w → above ≡ w .above → hookOf p (bitsLeft (p .mask)) width above ≡ hookAt w width
 hook-is p w above width st a = rw (bits-stand p w st, st .path, shl-shr (w .path) (w .bits), a)
 
 -- the way of a word was sought, and ended so
@@ -86,6 +86,7 @@ module _ {h : Header} {table : List ℕ} {k : ℕ} {s : Seek} {end : End} (q : S
   hook-there : hookOf (placeOf s k) (bitsLeft (s .mask)) (h .width) (s .above) ≡ hookAt (q .ends .walk) (h .width)
   hook-there = hook-is (placeOf s k) (q .ends .walk) (s .above) (h .width) stands-there (q .ends .above)
 
+-- so fewer bits are left at the place further down
 fewer : (p q : Place) (w v : Walk) → Stands p w → Stands q v → v .bits ≤ w .bits → bitsLeft (q .mask) ≤ bitsLeft (p .mask)
 fewer p q w v at-w at-v h = rw (bits-stand p w at-w, bits-stand q v at-v) h
 
@@ -94,7 +95,7 @@ abbrev holeAt : Walk → Walk → ℕ → Hole
 holeAt w s width =
     record { from = w .row; steps = w .bits - s .bits; row = s .row; hook = hookAt s width; rows = width - s .bits + 1 }
 
-abbrev pub holeOf : Place → Leg → ℕ → Hole
+abbrev holeOf : Place → Leg → ℕ → Hole
 holeOf at r width =
     record {
       from = at .row;
@@ -138,7 +139,7 @@ module _ (h : Header) (table : List ℕ) (fine : wrong-header h table ≡ false)
   room : w .count ≤ capacity table
   room = in-table h table k w fine gone
 
-  pub broken-is : broken whole ≡ isDamage (w .stage)
+  broken-is : broken whole ≡ isDamage (w .stage)
   unfolding broken
   broken-is = rw (following-is k, at-end .end) (by-stage (w .stage))
     where
@@ -148,22 +149,22 @@ module _ (h : Header) (table : List ℕ) (fine : wrong-header h table ≡ false)
       by-stage AtRow = refl
       by-stage AtDamage = refl
 
-  pub ends-is : ends-at k whole ≡ endsAt k (w .key) (w .stage)
+  ends-is : ends-at k whole ≡ endsAt k (w .key) (w .stage)
   ends-is = rw (following-is k) (there h table k w fine gone)
 
-  pub rows-are : Ways.rows whole ≡ rowsRead w (h .width)
+  rows-are : Ways.rows whole ≡ rowsRead w (h .width)
   rows-are = rw (following-is k) (rows-gone rows (seeking k k) (h .width) (h .count) (shown h table) w gone)
 
   above-is : above-end whole ≡ remembered rows (w .count) (ltb (w .bits) (h .width)) (w .bits) (w .above) (sideOf (w .path % 2))
   above-is = rw (following-is k) (at-end .above)
 
-  pub hooks-whole : SameHook (above-end whole) (hookAt w (h .width))
+  hooks-whole : SameHook (above-end whole) (hookAt w (h .width))
   hooks-whole = hook-told rows (w .count) (capacity table) (w .bits) (w .above) (w .path) room (ltb (w .bits) (h .width)) (above-end whole) above-is
 
   whole-used : All (λ s. s .at < w .count) (whole .passed)
   whole-used = rw (gone .walking .same-count) (shown-used (following k) h table)
 
-  pub hangs-whole : Hangs (capacity table) (hookAt w (h .width))
+  hangs-whole : Hangs (capacity table) (hookAt w (h .width))
   hangs-whole =
       hang-told rows (w .count) (capacity table) (w .bits) (w .above) (w .path) room (ltb (w .bits) (h .width)) (above-end whole) above-is (last-such-one anything whole-used)
 

@@ -143,18 +143,36 @@ impl Header {
         ensures hangs { λ r. ⌜ Hangs (capacity (now (table .entry))) (r .hook) ⌝ }
     {
         let last = (self.count - 1) as usize;
-        let nowhere = Hook { linked: false, above: 0, side: 0 };
+        let nowhere = Hook {
+            linked: false,
+            above: 0,
+            side: 0,
+        };
         if hole == last {
-            return Move { needed: false, astray: false, hook: nowhere, rows: 0 };
+            return Move {
+                needed: false,
+                astray: false,
+                hook: nowhere,
+                rows: 0,
+            };
         }
         let key = row_at(table, last).entry.key;
         if self.is_exceeded_by(key) {
-            return Move { needed: true, astray: true, hook: nowhere, rows: 0 };
+            return Move {
+                needed: true,
+                astray: true,
+                hook: nowhere,
+                rows: 0,
+            };
         }
         let s = sought(table, self, key);
         let end = seek_end(table, self.count as usize, key, s);
         let bits = bits_of(s.mask);
-        let ends = if let End::Row(row) = end { s.row == last } else { false };
+        let ends = if let End::Row(row) = end {
+            s.row == last
+        } else {
+            false
+        };
         Move {
             needed: true,
             astray: !ends,

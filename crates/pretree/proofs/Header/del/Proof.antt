@@ -102,8 +102,7 @@ seek-end-requires : tie.Need-seek-end-requires
 seek-end-requires c κs =
     let here = c .before .before in
     let a = start-of here .args in
-    let known = fine (unrefused here) in
-    (
+    let known = fine (unrefused here) in (
       right-header (a .self) (a .table .now) (known .0) .has-room,
       tail-few (a .table .now) (a .self) (a .word) (known .0) (known .1) (here .sought .result) (here .sought .ensures),
     )
@@ -138,8 +137,7 @@ place-requires : tie.Need-place-requires
 place-requires c κs =
     let here = seek-of (end-of (row-of (c .before .before) .before)) in
     let a = start-of here .args in
-    let known = fine (unrefused here) in
-    (
+    let known = fine (unrefused here) in (
       tail-less (a .table .now) (a .self) (a .word) (known .0) (known .1) (here .sought .result) (here .sought .ensures),
       between-few (a .table .now) (a .self) (a .word) (known .0) (known .1) (here .sought .result) (here .sought .ensures),
     )

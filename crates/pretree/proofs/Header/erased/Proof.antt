@@ -27,8 +27,7 @@ cast-down c = search needs
 down-requires : tie.Need-down-requires
 down-requires c κs =
     let start = c .before .before .before in
-    let a = start .args in
-    (
+    let a = start .args in (
       right-header (a .self) (a .table .now) (start .pre .0) .has-room,
       (omega arith, begun (start .pre .0) (start .pre .1 .1)),
     )

@@ -68,8 +68,7 @@ returns-2 c =
     let row = c .before .before in
     let start = begin (row .before) in
     let a = start .args in
-    let wide = sym (c .before .is-exceeded-by .ensures) ∙ c .if2 .taken in
-    (
+    let wide = sym (c .before .is-exceeded-by .ensures) ∙ c .if2 .taken in (
       wide-moves (a .self) (a .table .now) (start .pre .0) (row .row-at .result .entry .key) (key-is row) wide (a .hole) _ (apart (row .before)),
       (λ never. absurd (true≢false (sym never)), omega arith),
     )
@@ -98,8 +97,7 @@ seek-end-requires : tie.Need-seek-end-requires
 seek-end-requires c κs =
     let here = c .before in
     let start = start-of here in
-    let a = start .args in
-    (
+    let a = start .args in (
       right-header (a .self) (a .table .now) (start .pre .0) .has-room,
       tail-few (a .table .now) (a .self) _ (start .pre .0) (narrow (here .before)) (here .sought .result) (here .sought .ensures),
     )
@@ -114,8 +112,7 @@ place-requires : tie.Need-place-requires
 place-requires c κs =
     let here = seeking c in
     let start = start-of here in
-    let a = start .args in
-    (
+    let a = start .args in (
       tail-less (a .table .now) (a .self) _ (start .pre .0) (narrow (here .before)) (here .sought .result) (here .sought .ensures),
       between-few (a .table .now) (a .self) _ (start .pre .0) (narrow (here .before)) (here .sought .result) (here .sought .ensures),
     )
@@ -149,8 +146,7 @@ returns-3 c =
     let done = seek-done (a .self) (a .table .now) (row .row-at .result .entry .key) (here .sought .result) (end .result) (start .pre .0) (narrow (here .before)) (start .pre .1) (here .sought .ensures) (end .ensures) in
     let place = c .before .before .place .ensures in
     let bits = came .before .bits-of .ensures in
-    let hook = c .before .hook-of .ensures in
-    (
+    let hook = c .before .hook-of .ensures in (
       seek-moves done (key-is row) place bits hook (came .match .ends) (ends-so came) (a .hole) (apart (row .before)),
       seek-hangs done (key-is row) place bits hook,
     )
