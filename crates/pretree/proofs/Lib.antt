@@ -19,6 +19,8 @@ pub mod Adding
 pub mod Displacing
 pub mod Neighbours
 pub mod Nearest
+pub mod EndTags
+pub mod EndKeys
 pub mod Erasing
 pub mod SoundTest
 pub mod Starred
