@@ -1,13 +1,13 @@
 -- The outcome of `add`, from the walk that went the way of the word and the walk that went on with the push.
-use Prim.Native.Nat.{ℕ, zero, suc, _+_, _-_, _/_, _%_, _^_, _≤_, _<_}
+use Prim.Native.Nat.{ℕ, suc, _+_, _-_, _%_, _≤_, _<_}
 use mathlib.Core.Path.{_≡_, refl, sym, ap, _∙_, subst}
 use mathlib.Core.Bool.{Bool, true, false, true≢false}
 use mathlib.Core.List.{List, _++_}
-use native.Mathlib.Nat.{add-zero, zero-add, zero-mul, lt-of-lt-of-le}
+use native.Mathlib.Nat.{add-zero, lt-of-lt-of-le}
 use native.Mathlib.Omega.{arith}
 use lib.Dec.{ltb, eqb}
 use lib.ListN.{length}
-use lib.Pow.{pow-mono, ones-lt, shl-shr}
+use lib.Pow.{shl-shr}
 use borrow.Author.Tests.{lt-ltb, eq-eqb, ne-eqb}
 use Rattle.ordered.specs.Such.{if_then_else_, such, no-such, last-such, anything}
 use Rattle.ordered.specs.Word.{Side, sideOf}
@@ -29,15 +29,15 @@ use Rattle.pretree.specs.Unfold.{shown}
 use Rattle.pretree.specs.Reply.{wrong-header, too-wide, refused, answered}
 use Rattle.pretree.specs.Walk.{Walk, Stage, On, AtNone, AtRow, AtDamage, started, isOn, endRead, rowsRead, ended, treeAt, to-come, stepAt, remembered, seeking, Goes, Walked}
 use Rattle.pretree.specs.Resume.{isDamage, endsAt, again, resumed, Going}
-use Rattle.pretree.specs.Leg.{rootPlace, Stands, OnLeg, GoesOn}
+use Rattle.pretree.specs.Leg.{rootPlace, OnLeg, GoesOn}
 use Rattle.pretree.specs.Seek.{bitsLeft, placeOf, SeekEnds}
-use Rattle.pretree.specs.Add.{taking, hooking, grown, addOutcome, Outcome}
+use Rattle.pretree.specs.Add.{taking, hooking, grown, addOutcome}
 use Rattle.pretree.specs.Push.{takes-from, left-from, endBits, endSide, grownAt, Growable, grownOutcome, Displaces}
 use Rattle.pretree.proofs.Checks.{right-header}
 use Rattle.pretree.proofs.Walking.{at-none, at-damage, begins-root}
 use Rattle.pretree.proofs.Seeking.{following-is}
-use Rattle.pretree.proofs.Between.{bits-are}
 use Rattle.pretree.proofs.Sought as Sought
+use Rattle.pretree.proofs.Found.{bits-there, root-stands}
 use Rattle.pretree.proofs.Ended.{endPart, all-gone, rows-gone}
 use Rattle.pretree.proofs.Resuming.{resumes, Told, told, rows-used, shown-used}
 use Rattle.pretree.proofs.Pushing.{rises-within, Pushed, none-pushed, is-pushed, no-end-row}
@@ -52,7 +52,7 @@ hooks rows n m above i s table false = refl
 -- the numbers of a leg are those of the walk that is with it
 module _ (count : ℕ) (l : Leg) (p : Walk) (on : OnLeg count l p) where
   end-bits : endBits l ≡ p .bits
-  end-bits = ap bitsLeft (on .stands .mask) ∙ bits-are (p .bits) (on .stands .few)
+  end-bits = bits-there (l .at) p (on .stands)
 
   end-side : endSide l ≡ sideOf (p .path % 2)
   end-side = rw (end-bits, on .stands .path, shl-shr (p .path) (p .bits))
@@ -268,20 +268,7 @@ module _ (h : Header) (table : List ℕ) (k : ℕ) (fine : wrong-header h table 
 
   root-on : OnLeg (h .count) rootLeg (started h)
   root-on =
-      let few : h .width ≤ 32 = right-header h table fine .at-most-32 in
-      record {
-        stands =
-            record {
-              row = refl;
-              mask = refl;
-              path = sym (zero-mul (2 ^ h .width));
-              low = refl;
-              few = few;
-              room = rw (zero-add (2 ^ h .width - 1)) (lt-of-lt-of-le (ones-lt (h .width)) (pow-mono few));
-            };
-        above = refl;
-        same-count = refl;
-      }
+      record { stands = root-stands h (right-header h table fine .at-most-32); above = refl; same-count = refl }
 
   pub root-growable : Growable h table 0 (h .width) (endBits rootLeg) 0
   root-growable =

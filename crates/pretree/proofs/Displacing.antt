@@ -24,8 +24,8 @@ use Rattle.pretree.specs.Leg.{linkEnd, EndsSo, Stands, OnLeg, GoesOn, pa
 use Rattle.pretree.specs.Seek.{bitsLeft}
 use Rattle.pretree.specs.Add.{addOutcome}
 use Rattle.pretree.specs.Push.{endBits, endSide, Growable, grownOutcome, Displaces}
-use Rattle.pretree.proofs.Between.{bits-are}
 use Rattle.pretree.proofs.Places.{inner}
+use Rattle.pretree.proofs.Found.{bits-there}
 use Rattle.pretree.proofs.Legs.{legPast, goes-past, own-turn, push-ends}
 use Rattle.pretree.proofs.Adding.{not-at-row, damage-outcome, growable, grown-outcome}
 
@@ -66,14 +66,11 @@ module _ (h : Header) (table : List ℕ) (k : ℕ) (at : Place) (r : Rows.Row) (
   pub inner-place : 0 < at .mask
   inner-place = inner at w (d .stands) m bits
 
-  pub bits-there : bitsLeft (at .mask) ≡ w .bits
-  bits-there = ap bitsLeft (d .stands .mask) ∙ bits-are (w .bits) (d .stands .few)
-
   -- the walk wants the row again, and a leg is where it is
-  abbrev there : Leg
-  there = record { at = at; above = w .above }
+  abbrev rowLeg : Leg
+  rowLeg = record { at = at; above = w .above }
 
-  wants-again : OnLeg (h .count) there (resumed w)
+  wants-again : OnLeg (h .count) rowLeg (resumed w)
   wants-again =
       let st : Stands at w = d .stands in
       record {
@@ -84,14 +81,14 @@ module _ (h : Header) (table : List ℕ) (k : ℕ) (at : Place) (r : Rows.Row) (
 
   -- past the row, by its key's own bits
   abbrev past : Rows.Row → Leg
-  past x = legPast there x (sideOf (ownSide (at .mask) (x .entry .key)))
+  past x = legPast rowLeg x (sideOf (ownSide (at .mask) (x .entry .key)))
 
   passes-first : LegWalk rows pushing (h .count) stageAt (resumed w) (past r)
   unfolding pushing
   passes-first =
       let row-holds : holds w (rows (at .row)) ≡ true = subst (λ (i : ℕ). holds w (rows i) ≡ true) (sym (d .stands .row)) (placed .1) in
       subst (λ (x : Rows.Row). LegWalk rows pushing (h .count) stageAt (resumed w) (past x)) (ap rows (d .stands .row) ∙ sym (d .ends .1))
-      (goes-past rows pushing (h .count) there (resumed w) wants-again (ap again (d .ends .0)) m bits row-holds _
+      (goes-past rows pushing (h .count) rowLeg (resumed w) wants-again (ap again (d .ends .0)) m bits row-holds _
       (λ n e. ap to (sym (own-turn (at .mask) n _ (d .stands .mask ∙ ap (λ (b : ℕ). 2 ^ b - 1) e)))) stageAt refl)
 
   pub begun-push : BegunLeg (h .count) stageAt (past r)
@@ -133,9 +130,9 @@ module _ (h : Header) (table : List ℕ) (k : ℕ) (at : Place) (r : Rows.Row) (
     module _ (whole : end ≡ Damage → ⊥) where
       pub push-growable : Growable h table (at .row) (bitsLeft (at .mask)) (endBits leg) (leg .above)
       push-growable =
-          growable h table k w fine (d .walked) p goes (ap isOn (at-link whole)) (at .row) (bitsLeft (at .mask)) leg (d .stands .row) bits-there (ends-push .on)
+          growable h table k w fine (d .walked) p goes (ap isOn (at-link whole)) (at .row) (bitsLeft (at .mask)) leg (d .stands .row) (bits-there at w (d .stands)) (ends-push .on)
 
       pub push-outcome : addOutcome h table k ≡ grownOutcome h table k (at .row) (bitsLeft (at .mask)) (endBits leg) (leg .above) (endSide leg)
       push-outcome =
-          grown-outcome h table k w fine (d .walked) p goes (ap isOn (at-link whole)) (at .row) (bitsLeft (at .mask)) leg (d .stands .row) bits-there (ends-push .on) small
+          grown-outcome h table k w fine (d .walked) p goes (ap isOn (at-link whole)) (at .row) (bitsLeft (at .mask)) leg (d .stands .row) (bits-there at w (d .stands)) (ends-push .on) small
           absent (at-link whole)

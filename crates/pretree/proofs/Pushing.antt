@@ -1,5 +1,5 @@
--- The push: that the rows which it passes rise, that the code's numbers give the way's entries, and that a row taken leaves the rows
--- ahead as they were.
+-- The push: that the rows which it passes rise, that the code's numbers give the way's entries, that it ends at no row, and that a row
+-- taken leaves the rows ahead as they were.
 use Prim.Native.Nat.{ℕ, zero, suc, _+_, _*_, _/_, _^_, _≤_, _<_, zero-le}
 use mathlib.Core.Path.{_≡_, refl, sym, ap, _∙_}
 use mathlib.Core.Bool.{Bool, true, false}

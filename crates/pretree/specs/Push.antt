@@ -73,7 +73,7 @@ grownOutcome h table k from bits end above s =
     if eqb (h .count) (capacity table) then record { reply = refused h Full; table = table }
     else record { reply = answered more Done (h .width - end); table = grownAt h table k from bits end above s }
 
--- the way of the word k ended at the row r with another key, and stands at that place
+-- the way of the word k ended at the row r, which stands at that place and has another key
 pub record Displaces (h : Header) (table : List ℕ) (k : ℕ) (at : Place) (r : Rows.Row) : Type 0 where
   pub walk : Walk
   pub walked : Walked (rowAt table) (seeking k k) (h .width) (h .count) (shown h table) walk

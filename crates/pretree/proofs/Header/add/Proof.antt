@@ -1,5 +1,5 @@
 -- The checks of document 01's order, the way of the word, and then what its end says.
-use Prim.Native.Nat.{_≤_, _<_}
+use Prim.Native.Nat.{_≤_}
 use mathlib.Core.Path.{_≡_, refl, sym, ap, _∙_, subst}
 use mathlib.Core.Bool.{false}
 use native.Mathlib.Nat.{pos-of-ne-zero}
