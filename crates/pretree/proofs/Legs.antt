@@ -153,7 +153,7 @@ module _ (rows : ℕ → Rows.Row) (f : Rule) (count : ℕ) (l : Leg) (w : Walk)
         go true = rw (on .same-count)
         go false = rw (on .same-count)
 
-    goes-past : (stageOf : ℕ → ℕ → Stage) → stageAt count (link here s) ≡ stageOf count (link here s) → LegWalk rows f count stageOf w (legPast l here s)
+    pub goes-past : (stageOf : ℕ → ℕ → Stage) → stageAt count (link here s) ≡ stageOf count (link here s) → LegWalk rows f count stageOf w (legPast l here s)
     goes-past stageOf led =
         record {
           walk = turned w here (to s);
@@ -316,7 +316,7 @@ sides : (s : Side) → sideOf (bitOf s) ≡ s
 sides left = refl
 sides right = refl
 
-own-turn : (mask m key : ℕ) → mask ≡ 2 ^ suc m - 1 → sideOf (ownSide mask key) ≡ side m key
+pub own-turn : (mask m key : ℕ) → mask ≡ 2 ^ suc m - 1 → sideOf (ownSide mask key) ≡ side m key
 own-turn mask m key e = rw (e, and-mask key (suc m), turns-so m key) (sides (side m key))
 
 pub own-small : (mask key : ℕ) → ownSide mask key < 2

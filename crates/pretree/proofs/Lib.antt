@@ -16,12 +16,15 @@ pub mod Found
 pub mod Resuming
 pub mod Pushing
 pub mod Adding
+pub mod Displacing
 pub mod Neighbours
 pub mod PassingEqual
 pub mod NextWord
 pub mod NextReply
 pub mod Nearest
 pub mod Previous
+pub mod EndTags
+pub mod EndKeys
 pub mod Erasing
 pub mod SoundTest
 pub mod Starred

@@ -26,8 +26,9 @@ ghost use mathlib.Core.Path.{_≡_};
 ghost use mathlib.Core.Bool.{false};
 ghost use Prim.Native.Nat.{_-_, _≤_, _<_};
 ghost use Rattle.pretree.specs.Table.{capacity, rowAt};
+ghost use Rattle.pretree.specs.Reply.{wrong-header, too-wide};
 ghost use Rattle.pretree.specs.Add.{addOutcome, taking};
-ghost use Rattle.pretree.specs.Push.{takes-from, left-from, Rising};
+ghost use Rattle.pretree.specs.Push.{takes-from, left-from, Rising, endBits, endSide, Growable, grownOutcome, Displaces};
 
 impl Header {
     // "`add` k: the way of k. If it ends at a key greater than k, that row takes k and its old key is pushed down".
@@ -39,14 +40,26 @@ impl Header {
             return self.refusal(table);
         }
         if self.count == 0 {
-            let start = Leg { at: Place::root(self.width), above: 0 };
+            let start = Leg {
+                at: Place::root(self.width),
+                above: 0,
+            };
             return self.grown(table, word, 0, self.width, start);
         }
         let s = sought(table, self, word);
         let end = seek_end(table, self.count as usize, word, s);
         match end {
             End::Damage => self.refused(Answer::Damage),
-            End::None => self.grown(table, word, s.row, bits_of(s.mask), Leg { at: s.place(word), above: s.above }),
+            End::None => self.grown(
+                table,
+                word,
+                s.row,
+                bits_of(s.mask),
+                Leg {
+                    at: s.place(word),
+                    above: s.above,
+                },
+            ),
             End::Row(row) => {
                 if row.entry.key == word {
                     return self.answered(Answer::AlreadyThere, self.width - bits_of(s.mask) + 1);
@@ -56,8 +69,18 @@ impl Header {
         }
     }
 
-    fn displaced(self, table: &mut [u32], word: u32, at: Place, row: Row) -> Reply {
-        let start = Leg { at: at.below(row, own_side(at.mask, row.entry.key)), above: at.row };
+    // The way of the word ended at that row, whose key is greater: "its old key is pushed down by its own bits".
+    fn displaced(self, table: &mut [u32], word: u32, at: Place, row: Row) -> Reply
+        requires header { ⌜ wrong-header self (now table) ≡ false ⌝ }
+        requires width { ⌜ too-wide self word ≡ false ⌝ }
+        requires ends { ⌜ Displaces self (now table) word at row ⌝ }
+        ensures { λ r. ⌜ r ≡ addOutcome self (now (table .entry)) word .reply ⌝ }
+        ensures { λ _. ⌜ now (table .exit) ≡ addOutcome self (now (table .entry)) word .table ⌝ }
+    {
+        let start = Leg {
+            at: at.below(row, own_side(at.mask, row.entry.key)),
+            above: at.row,
+        };
         let leg = pushed(table, self.count as usize, start);
         let end = link_end(table, self.count as usize, leg.at);
         if let End::Damage = end {
@@ -66,13 +89,25 @@ impl Header {
         self.grown(table, word, at.row, bits_of(at.mask), leg)
     }
 
-    fn grown(self, table: &mut [u32], word: u32, from: usize, bits: u32, leg: Leg) -> Reply {
+    // "The new row is row `count`, with both links 0, linked where the way or the push ended": the leg is there. The push began at row `from`.
+    fn grown(self, table: &mut [u32], word: u32, from: usize, bits: u32, leg: Leg) -> Reply
+        requires header { ⌜ wrong-header self (now table) ≡ false ⌝ }
+        requires growable { ⌜ Growable self (now table) from bits (endBits leg) (leg .above) ⌝ }
+        ensures { λ r. ⌜ r ≡ grownOutcome self (now (table .entry)) word from bits (endBits leg) (leg .above) (endSide leg) .reply ⌝ }
+        ensures { λ _. ⌜ now (table .exit) ≡ grownOutcome self (now (table .entry)) word from bits (endBits leg) (leg .above) (endSide leg) .table ⌝ }
+    {
         if self.count == capacity(table) {
             return self.refused(Answer::Full);
         }
         let end = bits_of(leg.at.mask);
         let entry = push(table, from, bits, end, Entry { key: word });
-        hook(table, end < self.width, leg.above, side_of(leg.at, end), self.count);
+        hook(
+            table,
+            end < self.width,
+            leg.above,
+            side_of(leg.at, end),
+            self.count,
+        );
         put_row(
             table,
             self.count as usize,
@@ -104,7 +139,11 @@ fn push(table: &mut [u32], from: usize, bits: u32, end: u32, entry: Entry) -> En
     while end < left {
         left = left - 1;
         let row = row_at(table, at);
-        let next = if (row.entry.key >> left) % 2 == 0 { row.left } else { row.right };
+        let next = if (row.entry.key >> left) % 2 == 0 {
+            row.left
+        } else {
+            row.right
+        };
         put_entry(table, at, carried);
         carried = row.entry;
         at = next as usize;

@@ -21,18 +21,24 @@ use crate::write::put_row;
 use crate::write::side_of;
 ghost use mathlib.Core.Path.{_≡_};
 ghost use mathlib.Core.Bool.{true, false};
-ghost use Prim.Native.Nat.{_<_};
+ghost use Prim.Native.Nat.{_<_, _≤_};
+ghost use Rattle.ordered.specs.Change.{erasing};
 ghost use Rattle.pretree.specs.Table.{capacity, rowAt};
+ghost use Rattle.pretree.specs.Unfold.{shown};
+ghost use Rattle.pretree.specs.Reply.{wrong-header, too-wide};
 ghost use Rattle.pretree.specs.Add.{taking};
 ghost use Rattle.pretree.specs.Del.{delOutcome};
-ghost use Rattle.pretree.specs.Erased.{Hangs, raising, Rises, Within, filled, emptied};
+ghost use Rattle.pretree.specs.Erased.{keyIn, hookOf, RowOfKey, JudgedStretch, JudgedMove, Hangs, raising, Rises, Within, filled, emptied};
 
+// Where the end of a way is linked: the row above it, and the side to which the way turned there. The root is linked nowhere.
 pub struct Hook {
     pub linked: bool,
     pub above: usize,
     pub side: u32,
 }
 
+// The stretch of an erase, judged: from row `from`, which is k's, `steps` rows down to the hole; where the hole is linked; and all the rows
+// read, those of the way of k too.
 pub struct Hole {
     pub from: usize,
     pub steps: u32,
@@ -41,6 +47,8 @@ pub struct Hole {
     pub rows: u32,
 }
 
+// The move of the last row, judged: whether there is one, whether the last row's way goes astray, where the row is linked, and the rows of
+// that way.
 pub struct Move {
     pub needed: bool,
     pub astray: bool,
@@ -68,14 +76,20 @@ impl Header {
             End::None => self.answered(Answer::NoSuchWord, passed),
             End::Row(row) => {
                 if row.entry.key == word {
-                    return self.hollowed(table, s.place(word), s.above);
+                    return self.erased(table, s.place(word), s.above);
                 }
                 self.answered(Answer::NoSuchWord, passed + 1)
             }
         }
     }
 
-    fn hollowed(self, table: &mut [u32], at: Place, above: usize) -> Reply
+    // The way of k ended at k's row, at that place below the row `above`. The stretch below is judged.
+    fn erased(self, table: &mut [u32], at: Place, above: usize) -> Reply
+        requires header { ⌜ wrong-header self (now table) ≡ false ⌝ }
+        requires width { ⌜ too-wide self (keyIn (now table) (at .row)) ≡ false ⌝ }
+        requires found { ⌜ RowOfKey self (now table) (keyIn (now table) (at .row)) at above ⌝ }
+        ensures reply { λ r. ⌜ r ≡ delOutcome self (now (table .entry)) (keyIn (now (table .entry)) (at .row)) .reply ⌝ }
+        ensures table { λ r. ⌜ now (table .exit) ≡ delOutcome self (now (table .entry)) (keyIn (now (table .entry)) (at .row)) .table ⌝ }
     {
         let leg = down(table, self.count as usize, Leg { at, above }, 0);
         let end = row_end(table, self.count as usize, leg.at);
@@ -93,7 +107,15 @@ impl Header {
         self.filled(table, hole)
     }
 
+    // "If the hole is not row count−1, that last row is moved into it."
     fn filled(self, table: &mut [u32], hole: Hole) -> Reply
+        requires header { ⌜ wrong-header self (now table) ≡ false ⌝ }
+        requires width { ⌜ too-wide self (keyIn (now table) (hole .from)) ≡ false ⌝ }
+        requires some { ⌜ 0 < self .count ⌝ }
+        requires judged { ⌜ JudgedStretch (erasing (self .width) (keyIn (now table) (hole .from)) (shown self (now table))) (now table) hole ⌝ }
+        requires within { ⌜ Within (now table) hole ⌝ }
+        ensures reply { λ r. ⌜ r ≡ delOutcome self (now (table .entry)) (keyIn (now (table .entry)) (hole .from)) .reply ⌝ }
+        ensures table { λ r. ⌜ now (table .exit) ≡ delOutcome self (now (table .entry)) (keyIn (now (table .entry)) (hole .from)) .table ⌝ }
     {
         let m = self.move_of(table, hole.row);
         if m.astray {
@@ -112,21 +134,45 @@ impl Header {
         }
     }
 
+    // "a second way, the way of the last row's key on the table as it was before the call, gives the link to be set"
+    // The way of a key of 2^W or more goes astray: no row that is no damage has such a key. `sought` asks for a word.
     fn move_of(self, table: &[u32], hole: usize) -> Move
+        requires header { ⌜ wrong-header self (now table) ≡ false ⌝ }
+        requires some { ⌜ 0 < self .count ⌝ }
+        ensures judged { λ r. ⌜ JudgedMove self (now (table .entry)) hole r ⌝ }
+        ensures hangs { λ r. ⌜ Hangs (capacity (now (table .entry))) (r .hook) ⌝ }
     {
         let last = (self.count - 1) as usize;
-        let nowhere = Hook { linked: false, above: 0, side: 0 };
+        let nowhere = Hook {
+            linked: false,
+            above: 0,
+            side: 0,
+        };
         if hole == last {
-            return Move { needed: false, astray: false, hook: nowhere, rows: 0 };
+            return Move {
+                needed: false,
+                astray: false,
+                hook: nowhere,
+                rows: 0,
+            };
         }
         let key = row_at(table, last).entry.key;
         if self.is_exceeded_by(key) {
-            return Move { needed: true, astray: true, hook: nowhere, rows: 0 };
+            return Move {
+                needed: true,
+                astray: true,
+                hook: nowhere,
+                rows: 0,
+            };
         }
         let s = sought(table, self, key);
         let end = seek_end(table, self.count as usize, key, s);
         let bits = bits_of(s.mask);
-        let ends = if let End::Row(row) = end { s.row == last } else { false };
+        let ends = if let End::Row(row) = end {
+            s.row == last
+        } else {
+            false
+        };
         Move {
             needed: true,
             astray: !ends,
@@ -190,7 +236,10 @@ fn raise(table: &mut [u32], from: usize, steps: u32)
     }
 }
 
+// Where a place is linked that has `bits` left: nowhere at the root, else below the row `above`.
 fn hook_of(at: Place, bits: u32, width: u32, above: usize) -> Hook
+    requires narrow { ⌜ bits ≤ 32 ⌝ }
+    ensures { λ r. ⌜ r ≡ hookOf at bits width above ⌝ }
 {
     Hook {
         linked: bits < width,
