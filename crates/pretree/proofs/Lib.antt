@@ -7,6 +7,7 @@ pub mod Seeking
 pub mod Between
 pub mod Sought
 pub mod Places
+pub mod EndTags
 pub mod Legs
 pub mod Falling
 pub mod Raising
@@ -20,3 +21,4 @@ pub mod Erasing
 pub mod SoundTest
 pub mod Starred
 pub mod Parts
+pub mod WholeTable
