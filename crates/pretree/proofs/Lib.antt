@@ -8,6 +8,7 @@ pub mod Between
 pub mod SeekWalk
 pub mod Sought
 pub mod Places
+pub mod EndTags
 pub mod Legs
 pub mod Falling
 pub mod Raising
@@ -29,3 +30,4 @@ pub mod Erasing
 pub mod SoundTest
 pub mod Starred
 pub mod Parts
+pub mod WholeTable

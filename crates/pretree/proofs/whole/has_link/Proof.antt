@@ -12,7 +12,7 @@ returns c =
 
 returns-2 : tie.Need-returns-2
 returns-2 c =
-    let none : c .before .before .args .row .left ≡ 0 = search needs in
+    let none : c .before .before .before .args .row .left ≡ 0 = search needs in
     simp (eq-eqb _ _ none)
 
 pub has-link-spec : {M : Type 1} → statement M
