@@ -24,7 +24,6 @@ pub mod NextWord
 pub mod NextReply
 pub mod Nearest
 pub mod Previous
-pub mod EndTags
 pub mod EndKeys
 pub mod Erasing
 pub mod SoundTest
