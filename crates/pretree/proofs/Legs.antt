@@ -8,7 +8,7 @@ use lib.Bits.{bitXor, bitAnd, and-mask}
 use lib.Dec.{ltb, leb, eqb}
 use borrow.Author.Tests.{lt-ltb, ne-eqb, ltb-true, eqb-true, eqb-false}
 use Rattle.ordered.specs.Such.{if_then_else_}
-use Rattle.ordered.specs.Word.{Side, left, right, sideOf, bitOf, side}
+use Rattle.ordered.specs.Word.{Side, left, right, other, sideOf, bitOf, side}
 use Rattle.ordered.specs.Way.{Rule, Turn, stop, to, down, pushing}
 use Rattle.ordered.proofs.Ways.{and-true}
 use Rattle.pretree.specs.declared.Row as Rows
@@ -226,25 +226,31 @@ stops-without : (s : Side) (r : Rows.Row) → noLinks r ≡ true → downTurn s 
 stops-without left r h = let both = and-true (eqb (r .left) 0) _ h in rw (both .0, both .1)
 stops-without right r h = let both = and-true (eqb (r .left) 0) _ h in rw (both .1, both .0)
 
-first-turn : (side : ℕ) (r : Rows.Row) → side < 2 → noLinks r ≡ false
-    → (downTurn (sideOf side) r ≡ to (sideOf (firstSide side r))) × (link r (sideOf (firstSide side r)) ≡ 0 → ⊥)
-first-turn zero r small links = go (eqb (r .left) 0) (eqb (r .right) 0) refl refl links
-  where
-    go : (a b : Bool) → eqb (r .left) 0 ≡ a → eqb (r .right) 0 ≡ b → (a && b) ≡ false
-        → ((if not a then to left else if not b then to right else stop) ≡ to (sideOf (if a then 1 - 0 else 0)))
-        × (link r (sideOf (if a then 1 - 0 else 0)) ≡ 0 → ⊥)
-    go false b l-there r-there h = (refl, eqb-false (r .left) 0 l-there)
-    go true false l-there r-there h = (refl, eqb-false (r .right) 0 r-there)
-    go true true l-there r-there h = absurd (true≢false h)
-first-turn (suc zero) r small links = go (eqb (r .left) 0) (eqb (r .right) 0) refl refl links
-  where
-    go : (a b : Bool) → eqb (r .left) 0 ≡ a → eqb (r .right) 0 ≡ b → (a && b) ≡ false
-        → ((if not b then to right else if not a then to left else stop) ≡ to (sideOf (if b then 1 - 1 else 1)))
-        × (link r (sideOf (if b then 1 - 1 else 1)) ≡ 0 → ⊥)
-    go a false l-there r-there h = (refl, eqb-false (r .right) 0 r-there)
-    go false true l-there r-there h = (refl, eqb-false (r .left) 0 l-there)
-    go true true l-there r-there h = absurd (true≢false h)
-first-turn (suc (suc s)) r small links = absurd (omega arith)
+other-side : (side : ℕ) → side < 2 → sideOf (1 - side) ≡ other (sideOf side)
+other-side zero small = refl
+other-side (suc zero) small = refl
+other-side (suc (suc s)) small = absurd (omega arith)
+
+module _ (r : Rows.Row) (links : noLinks r ≡ false) where
+  other-linked : (s : Side) → eqb (link r s) 0 ≡ true → eqb (link r (other s)) 0 ≡ false
+  other-linked left e = rw e at links
+  other-linked right e = go (eqb (r .left) 0) (rw e at links)
+    where
+      go : (b : Bool) → (b && true) ≡ false → b ≡ false
+      go true h = h
+      go false h = refl
+
+  first-turn : (side : ℕ) → side < 2 → (downTurn (sideOf side) r ≡ to (sideOf (firstSide side r))) × (link r (sideOf (firstSide side r)) ≡ 0 → ⊥)
+  first-turn side small = go (eqb (link r (sideOf side)) 0) refl
+    where
+      go : (b : Bool) → eqb (link r (sideOf side)) 0 ≡ b
+          → ((if not b then to (sideOf side) else if not (eqb (link r (other (sideOf side))) 0) then to (other (sideOf side)) else stop)
+          ≡ to (sideOf (if b then 1 - side else side)))
+          × (link r (sideOf (if b then 1 - side else side)) ≡ 0 → ⊥)
+      go false there = (refl, eqb-false _ 0 there)
+      go true none =
+          let there : eqb (link r (other (sideOf side))) 0 ≡ false = other-linked (sideOf side) none in
+          rw (other-side side small, there) (refl, eqb-false _ 0 there)
 
 pub first-small : (side : ℕ) (r : Rows.Row) → side < 2 → firstSide side r < 2
 first-small side r small = go (eqb (link r (sideOf side)) 0)
@@ -273,7 +279,7 @@ pub passes-down : (rows : ℕ → Rows.Row) (count side : ℕ) (l : Leg) → sid
     → Follows rows (down (sideOf side)) count stageHere l (legPast l (rows (l .at .row)) (sideOf (firstSide side (rows (l .at .row)))))
 passes-down rows count side l small goes =
     let p : Passing rows count (l .at) = down-passing rows count (l .at) goes in
-    let turns = first-turn side (rows (l .at .row)) small (down-links rows count (l .at) goes) in
+    let turns = first-turn (rows (l .at .row)) (down-links rows count (l .at) goes) side small in
     passes-row rows (down (sideOf side)) count stageHere l _ p (rw (lt-ltb _ _ (p .used))) (rw (ne-eqb _ 0 (turns .1)))
     (λ w on m e. down-says rows count m (l .at .row) _ (sideOf side) ∙ turns .0)
 
