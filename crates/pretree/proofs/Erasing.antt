@@ -39,7 +39,7 @@ use Rattle.pretree.specs.Leg.{judges, rowEnd, EndsSo, Stands, OnLeg, Goe
 use Rattle.pretree.specs.Add.{taking, hooking}
 use Rattle.pretree.specs.Del.{secondWay, astray, moving, shrunk, delOutcome}
 use Rattle.pretree.specs.Resume.{isDamage, endsAt, again, resumed, Going}
-use Rattle.pretree.specs.Erased.{RowOfKey, hookOf, hookedAt, SameHook, Hangs, raising, JudgedStretch, JudgedMove, Within, filled, emptied}
+use Rattle.pretree.specs.Erased.{RowOfKey, hookOf, hookedAt, SameHook, Hangs, raising, JudgedStretch, JudgedMove, noLink, Within, filled, emptied}
 use Rattle.pretree.proofs.Unfolding.{is-row}
 use Rattle.pretree.proofs.Walking.{at-none}
 use Rattle.pretree.proofs.Between.{bits-are}
@@ -401,6 +401,9 @@ not-both true b own = refl
 not-both false true own = absurd (true≢false (sym (own refl)))
 not-both false false own = refl
 
+pub no-link-hangs : (n : ℕ) (needed astray : Bool) → Hangs n (noLink needed astray .hook)
+no-link-hangs n needed astray = (λ never. absurd (true≢false (sym never)), omega arith)
+
 -- the way of the last row's key, and whether it goes astray
 module _ (h : Header) (table : List ℕ) (fine : wrong-header h table ≡ false) where
   abbrev last : ℕ
@@ -409,8 +412,8 @@ module _ (h : Header) (table : List ℕ) (fine : wrong-header h table ≡ false)
   abbrev last-key : ℕ
   last-key = rowAt table last .entry .key
 
-  pub nothing-moves : (hole : ℕ) (k : Hook) → hole ≡ last → JudgedMove h table hole (record { needed = false; astray = false; hook = k; rows = 0 })
-  nothing-moves hole k e =
+  pub nothing-moves : (hole : ℕ) → hole ≡ last → JudgedMove h table hole (noLink false false)
+  nothing-moves hole e =
       record { needed = rw (eq-eqb hole last e); astray = refl; rows = λ good. refl; hook = λ good never. absurd (true≢false (sym never)) }
 
   -- a key that is no word goes astray
@@ -418,9 +421,8 @@ module _ (h : Header) (table : List ℕ) (fine : wrong-header h table ≡ false)
   unfolding secondWay astray
   wide-strays wide = rw (no-such-end (following last-key) h table last-key wide) (or-true (broken (secondWay h table)))
 
-  pub wide-moves : (x : ℕ) → x ≡ last-key → too-wide h x ≡ true → (hole : ℕ) (k : Hook) → (hole ≡ last → ⊥)
-      → JudgedMove h table hole (record { needed = true; astray = true; hook = k; rows = 0 })
-  wide-moves x own wide hole k apart =
+  pub wide-moves : (x : ℕ) → x ≡ last-key → too-wide h x ≡ true → (hole : ℕ) → (hole ≡ last → ⊥) → JudgedMove h table hole (noLink true true)
+  wide-moves x own wide hole apart =
       record {
         needed = rw (ne-eqb hole last apart);
         astray = sym (wide-strays (rw own at wide));

@@ -2,7 +2,7 @@
 -- Document 01: "All of it is judged before anything is written."
 use Prim.Native.Nat.{ℕ, zero, suc, pred, _/_, _%_, _^_, _<_}
 use mathlib.Core.Path.{_≡_}
-use mathlib.Core.Bool.{true, false, not, _&&_, _||_}
+use mathlib.Core.Bool.{Bool, true, false, not, _&&_, _||_}
 use mathlib.Core.List.{List, [], _∷_}
 use lib.Dec.{ltb, eqb}
 use Rattle.ordered.specs.Such.{if_then_else_, Perhaps}
@@ -82,6 +82,11 @@ pub record JudgedMove (h : Header) (table : List ℕ) (hole : ℕ) (m : Move) : 
   pub astray : m .astray ≡ (m .needed && (broken (secondWay h table) || astray h table (secondWay h table)))
   pub rows : m .astray ≡ false → m .rows ≡ (if m .needed then rows (secondWay h table) else 0)
   pub hook : m .astray ≡ false → m .needed ≡ true → SameHook (above-end (secondWay h table)) (m .hook)
+
+-- a move that sets no link
+abbrev pub noLink : Bool → Bool → Move
+noLink needed astray =
+    record { needed = needed; astray = astray; hook = record { linked = false; above = 0; side = 0 }; rows = 0 }
 
 -- all that will be written is in the table
 pub record Within (table : List ℕ) (hole : Hole) : Type 0 where

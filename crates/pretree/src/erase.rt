@@ -28,7 +28,7 @@ ghost use Rattle.pretree.specs.Unfold.{shown};
 ghost use Rattle.pretree.specs.Reply.{wrong-header, too-wide};
 ghost use Rattle.pretree.specs.Add.{taking};
 ghost use Rattle.pretree.specs.Del.{delOutcome};
-ghost use Rattle.pretree.specs.Erased.{keyIn, hookOf, RowOfKey, JudgedStretch, JudgedMove, Hangs, raising, Rises, Within, filled, emptied};
+ghost use Rattle.pretree.specs.Erased.{keyIn, hookOf, noLink, RowOfKey, JudgedStretch, JudgedMove, Hangs, raising, Rises, Within, filled, emptied};
 
 // Where the end of a way is linked: the row above it, and the side to which the way turned there. The root is linked nowhere.
 pub struct Hook {
@@ -97,12 +97,14 @@ impl Header {
             return self.refused(Answer::Damage);
         }
         let bits = bits_of(leg.at.mask);
+        let steps = bits_of(at.mask) - bits;
+        let rows = self.width - bits + 1;
         let hole = Hole {
             from: at.row,
-            steps: bits_of(at.mask) - bits,
+            steps,
             row: leg.at.row,
             hook: hook_of(leg.at, bits, self.width, leg.above),
-            rows: self.width - bits + 1,
+            rows,
         };
         self.filled(table, hole)
     }
@@ -143,31 +145,17 @@ impl Header {
         ensures hangs { λ r. ⌜ Hangs (capacity (now (table .entry))) (r .hook) ⌝ }
     {
         let last = (self.count - 1) as usize;
-        let nowhere = Hook {
-            linked: false,
-            above: 0,
-            side: 0,
-        };
         if hole == last {
-            return Move {
-                needed: false,
-                astray: false,
-                hook: nowhere,
-                rows: 0,
-            };
+            return no_link(false, false);
         }
         let key = row_at(table, last).entry.key;
         if self.is_exceeded_by(key) {
-            return Move {
-                needed: true,
-                astray: true,
-                hook: nowhere,
-                rows: 0,
-            };
+            return no_link(true, true);
         }
         let s = sought(table, self, key);
         let end = seek_end(table, self.count as usize, key, s);
         let bits = bits_of(s.mask);
+        let rows = self.width - bits + 1;
         let ends = if let End::Row(row) = end {
             s.row == last
         } else {
@@ -177,8 +165,24 @@ impl Header {
             needed: true,
             astray: !ends,
             hook: hook_of(s.place(key), bits, self.width, s.above),
-            rows: self.width - bits + 1,
+            rows,
         }
+    }
+}
+
+// A move that sets no link: there is none, or it goes astray.
+fn no_link(needed: bool, astray: bool) -> Move
+    ensures { λ r. ⌜ r ≡ noLink needed astray ⌝ }
+{
+    Move {
+        needed,
+        astray,
+        hook: Hook {
+            linked: false,
+            above: 0,
+            side: 0,
+        },
+        rows: 0,
     }
 }
 

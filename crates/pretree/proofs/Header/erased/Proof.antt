@@ -82,8 +82,8 @@ few leg =
 width-few : (leg : tie.After-down) → begin leg .args .self .width ≤ 32
 width-few leg = right-header (begin leg .args .self) (begin leg .args .table .now) (begin leg .pre .0) .at-most-32
 
-sub-t17 : tie.Need-sub-t17
-sub-t17 c =
+sub-steps : tie.Need-sub-steps
+sub-steps c =
     let there = c .before .before in
     let leg = leg-of (there .before) in
     let start = begin leg in
@@ -91,28 +91,29 @@ sub-t17 c =
     rw (c .bits-of2 .ensures, c .before .bits-of .ensures)
     (falls (start .pre .0) (start .pre .1 .1) (leg .down .ensures) (whole there))
 
-hook-of-requires : tie.Need-hook-of-requires
-hook-of-requires c κs =
-    let leg = leg-of (c .before .before .before) in
-    rw (c .before .bits-of .ensures) (le-trans (few leg) (width-few leg))
-
-sub-t19 : tie.Need-sub-t19
-sub-t19 c =
-    let bits = c .before .before .before in
+sub-rows : tie.Need-sub-rows
+sub-rows c =
+    let bits = c .before .before in
     rw (bits .bits-of .ensures) (few (leg-of (bits .before .before)))
 
-add-t20 : tie.Need-add-t20
-add-t20 c = let small = width-few (leg-of (c .before .before .before .before .before)) in search needs
+add-rows : tie.Need-add-rows
+add-rows c = let small = width-few (leg-of (c .before .before .before .before)) in search needs
+
+hook-of-requires : tie.Need-hook-of-requires
+hook-of-requires c κs =
+    let bits = c .before .before in
+    let leg = leg-of (bits .before .before) in
+    rw (bits .bits-of .ensures) (le-trans (few leg) (width-few leg))
 
 filled-requires : tie.Need-filled-requires
 filled-requires c κs =
-    let hooked = c .before .before in
-    let bits = hooked .before .before in
+    let hooked = c .before in
+    let bits2 = hooked .before .before in
+    let bits = bits2 .before in
     let there = bits .before in
     let leg = leg-of (there .before) in
     let start = begin leg in
-    let a = start .args in
-    rw (hooked .hook-of .ensures, hooked .before .bits-of2 .ensures, bits .bits-of .ensures) (
+    rw (hooked .hook-of .ensures, bits2 .bits-of2 .ensures, bits .bits-of .ensures) (
       start .pre .0,
       (
         start .pre .1 .0,
@@ -146,10 +147,10 @@ erased-spec =
     returns
     bits-of-requires
     bits-of-requires-2
-    sub-t17
+    sub-steps
+    sub-rows
+    add-rows
     hook-of-requires
-    sub-t19
-    add-t20
     filled-requires
     same-length-2
     returns-2)

@@ -1,18 +1,18 @@
 -- Nothing moves; or the last key is no word; or the seek that went the second way says where it ended.
 use Prim.Native.Nat.{ℕ, pred, _-_, _≤_}
 use mathlib.Core.Path.{_≡_, sym, ap, _∙_}
-use mathlib.Core.Bool.{false, true≢false}
+use mathlib.Core.Bool.{true, false}
 use mathlib.Core.Logic.{⊎-elim}
 use native.Mathlib.Nat.{le-trans}
 use native.Mathlib.Omega.{arith}
 use native.Mathlib.Numerals.{sub-one}
 use Rattle.pretree.specs.declared.Row.{Row}
-use Rattle.pretree.specs.Table.{rowAt}
+use Rattle.pretree.specs.Table.{capacity, rowAt}
 use Rattle.pretree.specs.Reply.{too-wide}
 use Rattle.pretree.specs.Seek.{bitsLeft}
 use Rattle.pretree.proofs.Checks.{right-header}
 use Rattle.pretree.proofs.Sought.{tail-few, tail-less, between-few, mask-few}
-use Rattle.pretree.proofs.Erasing.{ends-last, is-last, no-last, nothing-moves, wide-moves, seek-done, seek-moves, seek-hangs}
+use Rattle.pretree.proofs.Erasing.{ends-last, is-last, no-last, no-link-hangs, nothing-moves, wide-moves, seek-done, seek-moves, seek-hangs}
 use Rattle.pretree.proofs.EndTags.{not-row}
 use borrow.Author.Needs.{needs}
 use Rattle.pretree.proofs.Header.move_of.Statement.{statement}
@@ -25,8 +25,8 @@ begin c = c .before .before .before
 abbrev moving : tie.Else2 → tie.Else1
 moving c = c .before .before .before
 
-abbrev seeking : tie.At-match-came → tie.After-sought
-seeking c = c .before .before .before .before
+abbrev seeking : tie.After-bits-of → tie.After-sought
+seeking c = c .before .before .before
 
 abbrev start-of : tie.After-sought → tie.Start
 start-of c = begin (moving (c .before))
@@ -37,11 +37,17 @@ sub-last c = search needs
 cast-last : tie.Need-cast-last
 cast-last c = search needs
 
+no-link-requires : tie.Need-no-link-requires
+no-link-requires c κs = search needs
+
 returns : tie.Need-returns
 returns c =
-    let start = c .before .before .before in
+    let start = c .before .before .before .before in
     let a = start .args in
-    (nothing-moves (a .self) (a .table .now) (start .pre .0) (a .hole) _ (c .if1 .taken ∙ sub-one _), (λ never. absurd (true≢false (sym never)), omega arith))
+    rw (c .no-link .ensures) (
+      nothing-moves (a .self) (a .table .now) (start .pre .0) (a .hole) (c .before .if1 .taken ∙ sub-one _),
+      no-link-hangs (capacity (a .table .now)) false false,
+    )
 
 row-at-requires : tie.Need-row-at-requires
 row-at-requires c κs =
@@ -63,14 +69,19 @@ key-is c =
     let a = begin (c .before) .args in
     ap (λ (r : Row). r .entry .key) (c .row-at .ensures) ∙ ap (λ (n : ℕ). rowAt (a .table .now) n .entry .key) (sub-one (a .self .count))
 
+no-link-requires-2 : tie.Need-no-link-requires-2
+no-link-requires-2 c κs = search needs
+
 returns-2 : tie.Need-returns-2
 returns-2 c =
-    let row = c .before .before in
+    let asked = c .before .before in
+    let row = asked .before in
     let start = begin (row .before) in
     let a = start .args in
-    let wide = sym (c .before .is-exceeded-by .ensures) ∙ c .if2 .taken in (
-      wide-moves (a .self) (a .table .now) (start .pre .0) (row .row-at .result .entry .key) (key-is row) wide (a .hole) _ (apart (row .before)),
-      (λ never. absurd (true≢false (sym never)), omega arith),
+    let wide = sym (asked .is-exceeded-by .ensures) ∙ c .before .if2 .taken in
+    rw (c .no-link2 .ensures) (
+      wide-moves (a .self) (a .table .now) (start .pre .0) (row .row-at .result .entry .key) (key-is row) wide (a .hole) (apart (row .before)),
+      no-link-hangs (capacity (a .table .now)) true true,
     )
 
 sought-requires : tie.Need-sought-requires
@@ -105,12 +116,18 @@ seek-end-requires c κs =
 bits-of-requires : tie.Need-bits-of-requires
 bits-of-requires c κs = search needs
 
+sub-rows : tie.Need-sub-rows
+sub-rows c = rw (c .before .bits-of .ensures) (few (seeking (c .before)))
+
+add-rows : tie.Need-add-rows
+add-rows c = let small = width-few (seeking (c .before)) in search needs
+
 enum-known-end : tie.Need-enum-known-end
 enum-known-end c = search needs
 
 place-requires : tie.Need-place-requires
 place-requires c κs =
-    let here = seeking c in
+    let here = seeking (c .before .before) in
     let start = start-of here in
     let a = start .args in (
       tail-less (a .table .now) (a .self) _ (start .pre .0) (narrow (here .before)) (here .sought .result) (here .sought .ensures),
@@ -119,36 +136,30 @@ place-requires c κs =
 
 hook-of-requires : tie.Need-hook-of-requires
 hook-of-requires c κs =
-    let here = seeking (c .before) in
-    rw (c .before .before .bits-of .ensures) (le-trans (few here) (width-few here))
-
-sub-t12 : tie.Need-sub-t12
-sub-t12 c = rw (c .before .before .before .before .bits-of .ensures) (few (seeking (c .before .before .before)))
-
-add-t20 : tie.Need-add-t20
-add-t20 c = let small = width-few (seeking (c .before .before .before)) in search needs
+    let bits = c .before .before .before in
+    rw (bits .bits-of .ensures) (le-trans (few (seeking bits)) (width-few (seeking bits)))
 
 -- what the arms tell
 ends-so : (c : tie.At-match-came)
-    → c .match .ends ≡ ends-last (seeking c .sought .result .row) (start-of (seeking c) .args .self .count - 1) (c .before .before .seek-end .result)
+    → let here = seeking (c .before .before) in
+    c .match .ends ≡ ends-last (here .sought .result .row) (start-of here .args .self .count - 1) (c .before .before .before .seek-end .result)
 ends-so c =
-    let end = c .before .before .seek-end .result in
+    let end = c .before .before .before .seek-end .result in
     ⊎-elim (λ x. x .4 ∙ is-last _ _ end _ (x .1 .given .1)) (λ x. x .1 ∙ sym (no-last _ _ end (not-row end (x .0 .keys2)))) (c .match .came)
 
 returns-3 : tie.Need-returns-3
 returns-3 c =
-    let came = c .before .before .before in
-    let here = seeking came in
+    let came = c .before .before in
+    let bits = came .before .before in
+    let end = bits .before .seek-end in
+    let here = seeking bits in
     let row = here .before .before .before in
     let start = start-of here in
     let a = start .args in
-    let end = came .before .before .seek-end in
     let done = seek-done (a .self) (a .table .now) (row .row-at .result .entry .key) (here .sought .result) (end .result) (start .pre .0) (narrow (here .before)) (start .pre .1) (here .sought .ensures) (end .ensures) in
-    let place = c .before .before .place .ensures in
-    let bits = came .before .bits-of .ensures in
-    let hook = c .before .hook-of .ensures in (
-      seek-moves done (key-is row) place bits hook (came .match .ends) (ends-so came) (a .hole) (apart (row .before)),
-      seek-hangs done (key-is row) place bits hook,
+    let place = c .before .place .ensures in (
+      seek-moves done (key-is row) place (bits .bits-of .ensures) (c .hook-of .ensures) (came .match .ends) (ends-so came) (a .hole) (apart (row .before)),
+      seek-hangs done (key-is row) place (bits .bits-of .ensures) (c .hook-of .ensures),
     )
 
 pub move-of-spec : {M : Type 1} → statement M
@@ -157,17 +168,19 @@ move-of-spec =
     (tie.spec
     sub-last
     cast-last
+    no-link-requires
     returns
     row-at-requires
     is-exceeded-by-requires
+    no-link-requires-2
     returns-2
     sought-requires
     cast-seek-end
     seek-end-requires
     bits-of-requires
+    sub-rows
+    add-rows
     enum-known-end
     place-requires
     hook-of-requires
-    sub-t12
-    add-t20
     returns-3)
