@@ -1,8 +1,5 @@
 -- The row is passed, the leg of the push goes on, and its end says what is done.
-use Prim.Native.Nat.{ℕ}
 use mathlib.Core.Path.{_≡_, refl, sym, _∙_}
-use mathlib.Core.Logic.{_⊎_, inl, inr}
-use native.Mathlib.Omega.{arith}
 use Rattle.ordered.specs.Word.{sideOf}
 use Rattle.ordered.specs.Way.{pushing}
 use Rattle.pretree.specs.declared.leg.End.the-variants.{Damage}
@@ -13,6 +10,7 @@ use Rattle.pretree.specs.Add.{addOutcome}
 use Rattle.pretree.specs.Push.{endBits, endSide, Growable, grownOutcome}
 use Rattle.pretree.proofs.Checks.{right-header}
 use Rattle.pretree.proofs.Legs.{own-small}
+use Rattle.pretree.proofs.EndTags.{not-damage}
 use Rattle.pretree.proofs.Displacing.{inner-place, begun-push, push-damaged, push-growable, push-outcome}
 use borrow.Author.Needs.{needs}
 use Rattle.pretree.proofs.Header.displaced.Statement.{statement}
@@ -80,11 +78,7 @@ returns c =
 whole : (c : tie.At-match-keys2) → let p = c .before .before .before .before in
     let a = p .before .before .before .before .before .before .args in
     linkEnd (rowAt (a .table .now)) (a .self .count) (p .pushed .result .at) ≡ Damage → ⊥
-whole c damaged = go (rw (c .before .link-end .ensures, damaged) at (c .match .keys2))
-  where
-    go : (_≡_ {A = ℕ} 2 0) ⊎ (_≡_ {A = ℕ} 2 1) → ⊥
-    go (inl e) = omega arith
-    go (inr e) = omega arith
+whole c damaged = not-damage (c .before .link-end .result) (c .match .keys2) (c .before .link-end .ensures ∙ damaged)
 
 bits-of-requires : tie.Need-bits-of-requires
 bits-of-requires c κs = search needs
