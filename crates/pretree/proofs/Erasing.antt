@@ -2,7 +2,7 @@
 -- Document 01: "the way of k, then from k's row down by left link, else right link"; "For this a second way, the way of the last row's key".
 use Prim.Native.Nat.{ℕ, pred, _+_, _-_, _%_, _≤_, _<_}
 use mathlib.Core.Path.{_≡_, refl, sym, ap, _∙_, subst}
-use mathlib.Core.Bool.{Bool, true, false, not, _&&_, _||_, true≢false}
+use mathlib.Core.Bool.{Bool, true, false, not, _&&_, _||_, or-true, true≢false}
 use mathlib.Core.List.{List}
 use native.Mathlib.Nat.{le-trans, le-of-eq, lt-of-lt-of-le}
 use native.Mathlib.Omega.{arith}
@@ -384,6 +384,7 @@ ends-last i last Ends.None = false
 ends-last i last (Ends.Row r) = eqb i last
 ends-last i last Ends.Damage = false
 
+-- as the arms of a `match` tell it
 pub is-last : (i last : ℕ) (e : End) (r : Rows.Row) → e ≡ Ends.Row r → eqb i last ≡ ends-last i last e
 is-last i last e r d = rw d
 
@@ -392,14 +393,11 @@ no-last i last Ends.None other = refl
 no-last i last (Ends.Row r) other = absurd (other r refl)
 no-last i last Ends.Damage other = refl
 
-or-true : (b : Bool) → (b || true) ≡ true
-or-true true = refl
-or-true false = refl
-
-not-both : (a b : Bool) → (b ≡ true → a ≡ true) → not (a && b) ≡ not b
-not-both true b own = refl
-not-both false true own = absurd (true≢false (sym (own refl)))
-not-both false false own = refl
+-- the second test holds only where the first does: both hold where the second does
+only-second : (a b : Bool) → (b ≡ true → a ≡ true) → not (a && b) ≡ not b
+only-second true b own = refl
+only-second false true own = absurd (true≢false (sym (own refl)))
+only-second false false own = refl
 
 pub no-link-hangs : (n : ℕ) (needed astray : Bool) → Hangs n (noLink needed astray .hook)
 no-link-hangs n needed astray = (λ never. absurd (true≢false (sym never)), omega arith)
@@ -449,7 +447,7 @@ module _ (h : Header) (table : List ℕ) (fine : wrong-header h table ≡ false)
     astray-by : (e : End) → EndsSo (rowAt table) w e → not (endsAt last-key (w .key) (w .stage) && eqb (w .row) last) ≡ not (ends-last (w .row) last e)
     astray-by Ends.None so = rw so
     astray-by Ends.Damage so = rw so
-    astray-by (Ends.Row r) so = rw (so .0) (not-both (eqb last-key (w .key)) (eqb (w .row) last) own)
+    astray-by (Ends.Row r) so = rw (so .0) (only-second (eqb last-key (w .key)) (eqb (w .row) last) own)
       where
         own : eqb (w .row) last ≡ true → eqb last-key (w .key) ≡ true
         own same = eq-eqb last-key (w .key) (rw (so .2, so .1, eqb-true (w .row) last same))

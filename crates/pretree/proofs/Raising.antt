@@ -10,7 +10,7 @@ use lib.ListN.{length}
 use borrow.Author.Tests.{ltb-true, leb-true, eqb-false}
 use Rattle.ordered.specs.Such.{if_then_else_}
 use Rattle.ordered.specs.Word.{Side, left, right, bitOf}
-use Rattle.ordered.specs.Tree.{Tree, row, damaged, Entry, part, exists}
+use Rattle.ordered.specs.Tree.{Tree, row, damaged, Entry, part}
 use Rattle.ordered.specs.Way.{Way, Step, way, down, isDamaged, to}
 use Rattle.ordered.specs.Change.{raised, entryAt}
 use Rattle.ordered.proofs.Ways.{along, At-end, Onward, and-true}
@@ -61,10 +61,8 @@ module _ (rows : ℕ → Row) (n room : ℕ) (fits : n ≤ room) where
   abbrev key : ℕ → ℕ
   key i = rows i .entry .key
 
-  -- what a stretch from row i shows, if it meets no damage: it ends at a row, and its rows are in the table, with keys that rise
+  -- what a stretch from row i shows, if it meets no damage: what its rows take; and they are in the table, with keys that rise
   pub record Stretch (low i : ℕ) (w : Way) : Type 0 where
-    pub ends : exists (w .end) ≡ true
-    pub used : i < room
     pub rising : low ≤ key i
     pub top : topmost (w .passed) (entryAt (w .end)) ≡ record { key = key i }
     pub takes : raised (w .passed) (entryAt (w .end)) ≡ raising rows (length (w .passed)) i
@@ -98,7 +96,7 @@ module _ (rows : ℕ → Row) (n room : ℕ) (fits : n ≤ room) where
   unfolding raised raising Rises
   at-end m t stops path low i e ok =
       let f : Fine m path low i t = fine m path low i t e ok in
-      record { ends = rw (f .is); used = f .in-table; rising = f .above-low; top = rw (f .is); takes = refl; rises = f .in-table }
+      record { rising = f .above-low; top = rw (f .is); takes = refl; rises = f .in-table }
 
   onward : Onward (down left) P
   unfolding raising Rises
@@ -113,8 +111,6 @@ module _ (rows : ℕ → Row) (n room : ℕ) (fits : n ≤ room) where
       let k : Stretch (suc (key i)) (beneath (rows i)) (way (down left) m (part s l r))
       = rest (key i / 2 ^ suc m * 2 + bitOf s) (suc (key i)) (beneath (rows i)) (part-is ∙ linked-is ∙ rw (g .same)) ok in
       record {
-        ends = k .ends;
-        used = f .in-table;
         rising = f .above-low;
         top = entry;
         takes = raised-more _ _ _ ∙ rw (same, k .top, k .takes);

@@ -76,7 +76,6 @@ whole c d = not-damage (c .before .row-end .result) (c .match .keys2) (c .before
 few : (leg : tie.After-down) → bitsLeft (leg .down .result .at .mask) ≤ begin leg .args .self .width
 few leg =
     let start = begin leg in
-    let a = start .args in
     few-bits (start .pre .0) (start .pre .1 .1) (leg .down .ensures)
 
 width-few : (leg : tie.After-down) → begin leg .args .self .width ≤ 32
@@ -87,7 +86,6 @@ sub-steps c =
     let there = c .before .before in
     let leg = leg-of (there .before) in
     let start = begin leg in
-    let a = start .args in
     rw (c .bits-of2 .ensures, c .before .bits-of .ensures)
     (falls (start .pre .0) (start .pre .1 .1) (leg .down .ensures) (whole there))
 
