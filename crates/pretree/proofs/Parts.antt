@@ -120,8 +120,7 @@ module _ (rows : ℕ → Rows.Row) (n : ℕ) where
         go : (b c : Bool) → ltb (p .row) n ≡ b → judges p (rows (p .row)) ≡ c → Found p part (if b && c then Row (rows (p .row)) else Damage)
         go true true used fine =
             let held : holds w (rows (p .row)) ≡ true = sym (judges-so p w st (rows (p .row))) ∙ fine in
-            let past = and-true (leb (w .low) (rows (p .row) .entry .key)) _ held .1 in
-            (
+            let past = and-true (leb (w .low) (rows (p .row) .entry .key)) _ held .1 in (
               refl,
               rw place-bits (is ∙ is-row rows n (w .bits) (w .path) (w .low) (p .row) (judged-is true true used fine)),
               record {
@@ -473,14 +472,13 @@ module _ (rows : ℕ → Rows.Row) (n : ℕ) where
 
       pub writing-ends : (next + 1 ≡ start + size total) × (set buffer next (r .entry .key) ≡ sets first start (listing total))
       unfolding size listing
-      writing-ends =
-          (
-            let all : next + suc (size (side-part left) + size (side-part right)) ≡ start + size total = c .end in
+      writing-ends = (
+        let all : next + suc (size (side-part left) + size (side-part right)) ≡ start + size total = c .end in
             let few : next + 1 ≡ next + suc (size (side-part left) + size (side-part right)) = rw (left-none, right-empty) (omega arith) in
             few ∙ all,
-            let so : sets buffer next (here-row .entry .key ∷ (listing (side-part left) ++ listing (side-part right))) ≡ sets first start (listing total) = c .to-come in
+        let so : sets buffer next (here-row .entry .key ∷ (listing (side-part left) ++ listing (side-part right))) ≡ sets first start (listing total) = c .to-come in
             rw same-key (rw (left-none, right-empty) at so),
-          )
+      )
 
     module _ (has : not (eqb (r .left) 0 && eqb (r .right) 0) ≡ true) where
       deeper : (m : ℕ) × (c .standing .bits ≡ suc m)
@@ -558,10 +556,9 @@ module _ (rows : ℕ → Rows.Row) (n : ℕ) where
         unfolding size listing
         right-empty-ends e =
             let gone : side-part right ≡ none = side-so right .0 ∙ linked-none _ (r .right) e in
-            let so : sets second middle (listing (side-part right)) ≡ sets first start (listing total) = all-written in
-            (
+            let so : sets second middle (listing (side-part right)) ≡ sets first start (listing total) = all-written in (
               let none-size : size (side-part right) ≡ 0 = ap size gone in
-              omega (arith, middle-so, sizes),
+                  omega (arith, middle-so, sizes),
               rw gone at so,
             )
 

@@ -55,21 +55,20 @@ abbrev by-link : ℕ → link-counted-lts.Claims
 by-link t = (link-end-reads.Asked, link-end-reads.Learnt, row-counted-below t, row-counted.Post)
 
 abbrev by-row : ℕ → row-counted-lts.Claims
-by-row t =
-    (
-      row-at-reads.Asked,
-      row-at-reads.Learnt,
-      has-link-reads.Asked,
-      has-link-reads.Learnt,
-      of-reads.Asked,
-      of-reads.Learnt,
-      below-reads.Asked,
-      below-reads.Learnt,
-      link-counted-below t,
-      link-counted.Post,
-      link-end-reads.Asked,
-      link-end-reads.Learnt,
-    )
+by-row t = (
+  row-at-reads.Asked,
+  row-at-reads.Learnt,
+  has-link-reads.Asked,
+  has-link-reads.Learnt,
+  of-reads.Asked,
+  of-reads.Learnt,
+  below-reads.Asked,
+  below-reads.Learnt,
+  link-counted-below t,
+  link-counted.Post,
+  link-end-reads.Asked,
+  link-end-reads.Learnt,
+)
 
 abbrev Inv-loop : row-counted-lts.InvT-loop
 Inv-loop table count from bits row₀ mask₀ links₀ row mask links =
@@ -98,7 +97,7 @@ module _ (t : ℕ) where
       (c : link-counted-lts.After-link-end (by-link t) (link-counted-at t) link-counted.Post)
       → (e : End) → c .link-end .result ≡ e
       → parts.Found (rowAt (c .before .before .args .table .now)) (c .before .before .args .count) (c .before .before .args .at)
-          (placeTree (rowAt (c .before .before .args .table .now)) (c .before .before .args .count) (c .before .before .args .at)) e
+      (placeTree (rowAt (c .before .before .args .table .now)) (c .before .before .args .count) (c .before .before .args .at)) e
   found c e is =
       let s = c .before .before in
       subst (parts.Found (rowAt (s .args .table .now)) (s .args .count) (s .args .at) _) (sym (c .link-end .ensures) ∙ is)
@@ -178,8 +177,7 @@ module _ (t : ℕ) where
   link-counted-requires c κs =
       let s = c .before .before .before .before .before .before .before in
       let some : 0 < c .before .before .before .before .loop .mask = mask-some (c .before .before) in
-      let least = inv (c .before .before) .falls in
-      (
+      let least = inv (c .before .before) .falls in (
         rw (lefts c) (omega (arith, s .pre .0)),
         (s .pre .1 .0, rw (lefts c) (place-stands (c .before .before) left)),
       )
@@ -259,8 +257,7 @@ module _ (t : ℕ) where
 
   loop-again : row-counted-lts.Need-loop-again (by-row t) (row-counted-at t) row-counted.Post Inv-loop μ-loop
   loop-again c =
-      let e = c .before .before .before in
-      (
+      let e = c .before .before .before in (
         (d e) .before .before .loop .inv .0,
         right-found e _ (c .before .end .given .1) .3,
         rw (left-count e)

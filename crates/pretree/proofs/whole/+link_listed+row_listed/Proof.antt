@@ -150,8 +150,7 @@ module _ (t : ℕ) where
   link-listed-requires c κs =
       let d = c .before in
       let k = l d in
-      let s = k .before .before .before .before in
-      (
+      let s = k .before .before .before .before in (
         omega (arith, s .pre .0, half-less d, inv k .falls),
         (
           parts.left-standing (rows k) (n k) (all k) (a k .buffer .now) (a k .start) (a k .bits) (k .loop .buffer) (r k) (k .loop .mask) (k .loop .next) (inv k) (has d),
