@@ -3,17 +3,17 @@ use Prim.Native.Nat.{ℕ, zero, suc, _+_, _*_, _-_, _/_, _%_, _^_, _≤_, _<_}
 use mathlib.Core.Path.{_≡_, refl, sym, ap, _∙_}
 use mathlib.Core.Bool.{Bool, true, false, _&&_}
 use mathlib.Core.List.{List}
-use native.Mathlib.Nat.{suc-ne-zero, add-zero, pow-suc, mul-assoc, mul-comm, suc-mul, mul-le-mul-right, lt-suc-self, le-trans, le-of-lt, lt-of-lt-of-le}
+use native.Mathlib.Nat.{suc-ne-zero, add-zero, pow-suc, mul-assoc, mul-comm, suc-mul, lt-suc-self, le-trans, le-of-lt, lt-of-lt-of-le}
 use native.Mathlib.Numerals.{add-one}
 use native.Mathlib.Omega.{arith}
 use lib.Bits.{bitAnd, bitOr, and-mask, or-shifted}
 use lib.Dec.{ltb, leb, eqb}
-use lib.Pow.{split, pow-pos, pow-lt, pow-mono, pow-add, suc-ones, shr-lt}
+use lib.Pow.{split, pow-lt, pow-mono, suc-ones}
 use borrow.Author.Tests.{lt-ltb, le-leb, ne-eqb, leb-true, eqb-true, eqb-false}
 use Rattle.ordered.specs.Such.{if_then_else_}
 use Rattle.ordered.specs.Word.{left, side}
-use Rattle.ordered.specs.Tree.{Tree, none, row, damaged}
-use Rattle.ordered.specs.Way.{way, ending, broken, staying}
+use Rattle.ordered.specs.Tree.{none, row}
+use Rattle.ordered.specs.Way.{way, broken, staying}
 use Rattle.ordered.proofs.Bits.{next-bit, by-paths}
 use Rattle.ordered.proofs.Parts.{If-such}
 use Rattle.ordered.proofs.Ways.{and-true}
@@ -28,53 +28,29 @@ use Rattle.pretree.specs.Unfold.{ends-there, judged, linked, unfolded, s
 use Rattle.pretree.specs.Reply.{wrong-header, too-wide}
 use Rattle.pretree.specs.Find.{nextReply}
 use Rattle.pretree.specs.Found.{wordBy, then-by, aside-from, next-from}
-use Rattle.pretree.specs.Leg.{judges, linkEnd, Stands}
+use Rattle.pretree.specs.Leg.{judges, rowEnd, linkEnd, Stands}
 use Rattle.pretree.specs.Seek.{asideOf, spanOf}
 use Rattle.pretree.specs.Next.{nextPlace, nextFrom}
 use Rattle.pretree.specs.Walk.{Walk, On, AtNone, AtRow, AtDamage, isOn, rowsRead, stageAt, startedAt, holds, ended, turned, met, stepAt, remembered, seeking, seekTurn, Walking, Walked}
 use Rattle.pretree.proofs.Checks.{right-header, narrow}
+use Rattle.pretree.proofs.Found.{stays, row-read}
 use Rattle.pretree.proofs.Neighbours.{next-at}
 use Rattle.pretree.proofs.PassingEqual.{OnWay, aside-on-way, stops-past, takes-on}
 use Rattle.pretree.proofs.Places.{judges-so}
-use Rattle.pretree.proofs.Unfolding.{is-damaged, is-row}
+use Rattle.pretree.proofs.Sought.{last-small}
 
--- a way that stays ends at once
-stays : (m : ℕ) (t : Tree) → way staying m t ≡ ending m t
-unfolding way staying
-stays zero t = refl
-stays (suc m) none = refl
-stays (suc m) damaged = refl
-stays (suc m) (row i e l r) = refl
-
--- so its reply, from where a link leads, is that of what is found at the link's place, if a row is judged alike there
+-- what is found at a link's place is the reply of a second way that stays there, if a row is judged alike
 module _ (h : Header) (rows : ℕ → Row) (n m path low : ℕ) (p : Place)
-    (alike : (r : Row) → judges p r ≡ (leb low (r .entry .key) && (eqb (r .entry .key / 2 ^ m) path && ends-there m r))) where
-  abbrev reply-at : ℕ → Reply
-  reply-at i = then-by h n (way staying m (linked (unfolded rows (h .count) m path low) i))
-
-  at-link : (i : ℕ)
-      → reply-at i ≡ wordBy h n (if eqb i 0 then Ends.the-variants.None else if ltb i (h .count) && judges p (rows i) then Ends.the-variants.Row (rows i) else Ends.the-variants.Damage)
+    (alike : judges p (rows (p .row)) ≡ holds (startedAt (h .count) (p .row) m path low) (rows (p .row))) where
+  reads-link : then-by h n (way staying m (linked (unfolded rows (h .count) m path low) (p .row))) ≡ wordBy h n (linkEnd rows (h .count) p)
   unfolding broken Rattle.ordered.specs.Way.rows
-  at-link zero = rw (stays m none, add-zero n)
-  at-link (suc i) = rw (ne-eqb (suc i) 0 (suc-ne-zero i), alike (rows (suc i))) (go (judged (h .count) m path low (suc i) (rows (suc i))) refl)
+  reads-link = by-row (p .row) refl
     where
-      go : (b : Bool) → judged (h .count) m path low (suc i) (rows (suc i)) ≡ b
-          → reply-at (suc i) ≡ wordBy h n (if b then Ends.the-variants.Row (rows (suc i)) else Ends.the-variants.Damage)
-      go true j = rw (is-row rows (h .count) m path low (suc i) j, stays m _)
-      go false j = rw (is-damaged rows (h .count) m path low (suc i) j, stays m _)
-
-  reads-link : reply-at (p .row) ≡ wordBy h n (linkEnd rows (h .count) p)
-  reads-link = at-link (p .row)
-
--- the words with the bits of k's path end below 2 ^ 32
-part-room : (k b : ℕ) → k < 2 ^ 32 → b ≤ 32 → k / 2 ^ b * 2 ^ b + (2 ^ b - 1) < 2 ^ 32
-part-room k b small few =
-    let whole : 32 - b + b ≡ 32 = omega arith in
-    let less : k / 2 ^ b < 2 ^ (32 - b) = shr-lt (32 - b) b (rw whole small) in
-    let room : suc (k / 2 ^ b) * 2 ^ b ≤ 2 ^ (32 - b) * 2 ^ b = mul-le-mul-right (2 ^ b) less in
-    let all : 2 ^ (32 - b) * 2 ^ b ≡ 2 ^ 32 = rw (← pow-add 2 (32 - b) b, whole) refl in
-    let room′ : k / 2 ^ b * 2 ^ b + 2 ^ b ≤ 2 ^ 32 = rw (suc-mul (k / 2 ^ b) (2 ^ b), all) at room in
-    omega (arith, pow-pos b)
+      by-row : (i : ℕ) → p .row ≡ i
+          → then-by h n (way staying m (linked (unfolded rows (h .count) m path low) i))
+          ≡ wordBy h n (if eqb i 0 then Ends.the-variants.None else rowEnd rows (h .count) p)
+      by-row zero e = rw (stays m none, add-zero n)
+      by-row (suc i) e = rw (ne-eqb (suc i) 0 (suc-ne-zero i), ← e) (row-read h n rows (h .count) m path low p alike)
 
 -- the path of the right part of a row with that key and m bits left below it
 abbrev right-path : ℕ → ℕ → ℕ
@@ -131,13 +107,12 @@ module _ (k key m : ℕ) (least : key ≤ k) (on-path : key / 2 ^ suc m ≡ k / 
   module _ (small : k < 2 ^ 32) (few : suc m ≤ 32) (count l : ℕ) where
     aside-stands : Stands (aside-place k m l) (startedAt count l m (right-path key m) (suc k))
     aside-stands =
-        let room : k / 2 ^ suc m * 2 ^ suc m + (2 ^ suc m - 1) < 2 ^ 32 = part-room k (suc m) small few in
+        let room : k / 2 ^ suc m * 2 ^ suc m + (2 ^ suc m - 1) < 2 ^ 32 = last-small k (suc m) 32 few small in
         let room-here : key / 2 ^ suc m * 2 ^ suc m + 2 ^ m + (2 ^ m - 1) < 2 ^ 32 = rw on-path (omega (arith, room, pow-suc 2 m)) in
         record { row = refl; mask = refl; path = start-is; low = refl; few = le-of-lt few; room = rw (start-is, start) room-here }
 
     -- is judged as in the definition.
-    aside-alike : (r : Row)
-        → judges (aside-place k m l) r ≡ (leb (suc key) (r .entry .key) && (eqb (r .entry .key / 2 ^ m) (right-path key m) && ends-there m r))
+    aside-alike : (r : Row) → judges (aside-place k m l) r ≡ holds (startedAt count l m (right-path key m) (suc key)) r
     aside-alike r = judges-so (aside-place k m l) (startedAt count l m (right-path key m) (suc k)) aside-stands r ∙ same-bound count l r
 
 -- a link led the walk w here, and the seek s is where it is; the key above, if there is a row here, is k
@@ -173,7 +148,7 @@ module _ (h : Header) (table : List ℕ) (k : ℕ) (fine : wrong-header h table 
     aside-by true on used aside span =
         let key : ℕ = rowAt table (w .aside) .entry .key in
         let few : suc (w .beneath) ≤ 32 = le-trans (used refl .1) at-most in
-        let alike = aside-alike k key (w .beneath) (on .least) (on .on-path) (on .turned) word-small few (h .count) (rowAt table (w .aside) .right) in
+        let alike = aside-alike k key (w .beneath) (on .least) (on .on-path) (on .turned) word-small few (h .count) (rowAt table (w .aside) .right) (rowAt table (rowAt table (w .aside) .right)) in
         rw (nowhere, aside, span) (reads-link h (rowAt table) n (w .beneath) (right-path key (w .beneath)) (suc key) (aside-place k (w .beneath) (rowAt table (w .aside) .right)) alike)
 
     pub aside-reply : s .aside ≡ asideOf (rowAt table) (w .any) (w .aside) → s .span ≡ spanOf (w .any) (w .beneath)
@@ -213,7 +188,7 @@ module _ (h : Header) (table : List ℕ) (k : ℕ) (fine : wrong-header h table 
           path = rw (shows .path) path;
           low = sym (shows .low some);
           few = few;
-          room = rw (path, shows .mask) (part-room k (v .bits) word-small few);
+          room = rw (path, shows .mask) (last-small k (v .bits) 32 few word-small);
         }
 
     -- what the code finds at the row

@@ -24,7 +24,7 @@ use Rattle.pretree.proofs.Between as Between
 use Rattle.pretree.proofs.SeekWalk.{ends-here, ends-outside}
 
 -- the last word with the bits of k's path, where b bits are left, has no more bits than k may have
-last-small : (k b width : ℕ) → b ≤ width → k < 2 ^ width → k / 2 ^ b * 2 ^ b + (2 ^ b - 1) < 2 ^ width
+pub last-small : (k b width : ℕ) → b ≤ width → k < 2 ^ width → k / 2 ^ b * 2 ^ b + (2 ^ b - 1) < 2 ^ width
 last-small k b width fits small =
     let whole : width - b + b ≡ width = omega arith in
     let quotient : k / 2 ^ b ≤ 2 ^ (width - b) - 1 = le-ones (width - b) (shr-lt (width - b) b (rw whole small)) in
