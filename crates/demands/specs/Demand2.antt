@@ -12,7 +12,7 @@ use Rattle.pretree.specs.declared.Header.{Header}
 use Rattle.pretree.specs.declared.Reply.{Reply}
 use Rattle.pretree.specs.declared.Call.{Call}
 use Rattle.pretree.specs.Answer.{numberOf, keyOf}
-use Rattle.pretree.specs.Table.{capacity}
+use Rattle.pretree.specs.Table.{rowWords, capacity}
 use Rattle.pretree.specs.Reply.{fresh, wrong-width, wrong-header}
 use Rattle.pretree.specs.Call.{After}
 use Rattle.demands.specs.Program.{Program, Asked, State, outcome, state-after, end-state}
@@ -89,7 +89,7 @@ module _ (program : Program) where
 -- whatever words follow them
 pub record HeldIn (W : ℕ) (S rest : List ℕ) : Type 0 where
   pub rows : List ℕ
-  pub as-many : length rows ≡ 3 * length S
+  pub as-many : length rows ≡ rowWords * length S
   pub held : Holding (record { width = W; count = length S }) (rows ++ rest) S
 
 abbrev pub EverySetHeld : Type 0

@@ -11,7 +11,7 @@ use Rattle.ordered.specs.Reading.{has as reading-has, next as reading-next, pre
 use Rattle.ordered.specs.Change.{adding, erasing}
 use Rattle.pretree.specs.declared.Header.{Header}
 use Rattle.pretree.specs.Answer.{numberOf}
-use Rattle.pretree.specs.Table.{capacity}
+use Rattle.pretree.specs.Table.{rowWords, capacity}
 use Rattle.pretree.specs.Unfold.{shown}
 use Rattle.pretree.specs.Sound.{Sound}
 use Rattle.pretree.specs.declared.Call.{Call}
@@ -116,7 +116,7 @@ module _ (program : Program) where
         (numberAfter c h table buffer ≡ 7) ⊎ (numberAfter c h table buffer ≡ 8)
         → Untouched h table buffer (program c h table buffer) × (program c h table buffer .reply .rows ≡ rowsOf (waysOf c h table))
     -- "Words past the last whole row, or past that limit, are never changed."
-    pub past-the-rows : SameFrom (3 * capacity table) table (program c h table buffer .table)
+    pub past-the-rows : SameFrom (rowWords * capacity table) table (program c h table buffer .table)
     -- "`list` [..] leaves the rest of the buffer"
     pub past-the-listing : SameFrom (h .count) buffer (program c h table buffer .buffer)
 

@@ -11,6 +11,7 @@ use Rattle.ordered.specs.Such.{if_then_else_}
 use Rattle.ordered.specs.Dictionary.{Increasing}
 use Rattle.ordered.specs.Said.{_∈_}
 use Rattle.ordered.specs.Tree.{listing, unnumbered, treeOf}
+use Rattle.pretree.specs.Table.{rowWords}
 use Rattle.pretree.specs.declared.Header.{Header}
 use Rattle.pretree.specs.Unfold.{shown}
 use Rattle.pretree.specs.Sound.{Sound, isSound}
@@ -44,7 +45,7 @@ pub record OneTree : Type 0 where
 -- rows that hold the set S, whatever words follow them in the table
 pub record RowsOf (W : ℕ) (S rest : List ℕ) : Type 0 where
   pub rows : List ℕ
-  pub as-many : length rows ≡ 3 * length S
+  pub as-many : length rows ≡ rowWords * length S
   -- each of their words is a word of the width or the number of a row
   pub words : (w : ℕ) → w ∈ rows → (w < 2 ^ W) ⊎ (w < length S)
   pub held : HoldsSet (record { width = W; count = length S }) (rows ++ rest) S

@@ -5,6 +5,7 @@ use mathlib.Core.List.{List, [], _∷_, _++_}
 use lib.Dec.{eqb}
 use lib.ListN.{take, replicate}
 use Rattle.ordered.specs.Such.{if_then_else_}
+use Rattle.pretree.specs.Table.{rowWords}
 use Rattle.pretree.specs.declared.Header.{Header}
 use Rattle.pretree.specs.declared.Reply.{Reply}
 use Rattle.pretree.specs.Answer.{numberOf}
@@ -27,7 +28,7 @@ pub record State : Type 0 where
 
 -- "Table of 4,096 rows, all zeros, and a `list` buffer of 4,096 words. Header at the start: W 0, count 0."
 abbrev pub start : State
-start = record { header = fresh 0; table = replicate (3 * 4096) 0; buffer = replicate 4096 0; lines = 0 }
+start = record { header = fresh 0; table = replicate (rowWords * 4096) 0; buffer = replicate 4096 0; lines = 0 }
 
 -- how many words of the buffer are listed behind a reply: "After a `list` with answer 0"
 abbrev pub listedIn : Reply → ℕ

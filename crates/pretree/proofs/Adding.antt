@@ -1,79 +1,89 @@
 -- The outcome of `add`, from the walk that went the way of the word and the walk that went on with the push.
-use Prim.Native.Nat.{ℕ, suc, _-_, _%_, _≤_, _<_}
-use mathlib.Core.Path.{_≡_, refl, sym}
+use Prim.Native.Nat.{ℕ, suc, _+_, _-_, _%_, _≤_, _<_}
+use mathlib.Core.Path.{_≡_, refl, sym, ap, _∙_, subst}
 use mathlib.Core.Bool.{Bool, true, false, true≢false}
 use mathlib.Core.List.{List, _++_}
-use native.Mathlib.Nat.{le-trans, lt-of-lt-of-le}
+use native.Mathlib.Nat.{add-zero, lt-of-lt-of-le}
 use native.Mathlib.Omega.{arith}
 use lib.Dec.{ltb, eqb}
 use lib.ListN.{length}
+use lib.Pow.{shl-shr}
 use borrow.Author.Tests.{lt-ltb, eq-eqb, ne-eqb}
 use Rattle.ordered.specs.Such.{if_then_else_, such, no-such, last-such, anything}
 use Rattle.ordered.specs.Word.{Side, sideOf}
 use Rattle.ordered.specs.Tree.{Tree, none, damaged}
-use Rattle.ordered.specs.Way.{Way, way, joined, broken, isDamaged, pushing}
+use Rattle.ordered.specs.Way.{Way, way, joined, broken, isDamaged, endRows, pushing}
 use Rattle.ordered.specs.Way as Ways
 use Rattle.ordered.specs.Change.{isThere, ends-at, adding, adding-by}
 use Rattle.ordered.proofs.Parts.{All, none-all, all-append, If-such, last-such-one}
 use Rattle.pretree.specs.declared.Header.{Header}
 use Rattle.pretree.specs.declared.Entry.{Entry}
-use Rattle.pretree.specs.declared.Row.{Row}
-use Rattle.pretree.specs.declared.Answer.the-variants.{Done, Damage, Full, AlreadyThere}
-use Rattle.pretree.specs.declared.walk.Stage.{Stage}
-use Rattle.pretree.specs.declared.walk.Stage.the-variants.{On, AtNone, AtRow, AtDamage}
-use Rattle.pretree.specs.declared.walk.Walk.{Walk}
+use Rattle.pretree.specs.declared.Row as Rows
+use Rattle.pretree.specs.declared.Answer.the-variants.{Done, Full, AlreadyThere}
+use Rattle.pretree.specs.declared.Answer.the-variants as Answers
+use Rattle.pretree.specs.declared.leg.End.the-variants.{None, Row, Damage}
+use Rattle.pretree.specs.declared.leg.Leg.{Leg}
+use Rattle.pretree.specs.declared.seek.Seek.{Seek}
 use Rattle.pretree.specs.Table.{capacity, rowAt, withRow, hooked}
 use Rattle.pretree.specs.Unfold.{shown}
 use Rattle.pretree.specs.Reply.{wrong-header, too-wide, refused, answered}
-use Rattle.pretree.specs.Walk.{isOn, rowsRead, treeAt, to-come, stepAt, remembered, seeking, Goes, Walked}
-use Rattle.pretree.specs.Resume.{isDamage, endsAt, resumed, Going, GoingSome, GoneOn}
+use Rattle.pretree.specs.Walk.{Walk, Stage, On, AtNone, AtRow, AtDamage, started, isOn, endRead, rowsRead, ended, treeAt, to-come, stepAt, remembered, seeking, Goes, Walked}
+use Rattle.pretree.specs.Resume.{isDamage, endsAt, again, resumed, Going}
+use Rattle.pretree.specs.Leg.{rootPlace, OnLeg, GoesOn}
+use Rattle.pretree.specs.Seek.{bitsLeft, placeOf, SeekEnds}
 use Rattle.pretree.specs.Add.{taking, hooking, grown, addOutcome}
-use Rattle.pretree.specs.Push.{takes-from, left-from, grownAt, Growable, outcomeWhere}
+use Rattle.pretree.specs.Push.{takes-from, left-from, endBits, endSide, grownAt, Growable, grownOutcome, Displaces}
 use Rattle.pretree.proofs.Checks.{right-header}
-use Rattle.pretree.proofs.Walking.{at-none, at-damage}
+use Rattle.pretree.proofs.Walking.{at-none, at-damage, begins-root}
 use Rattle.pretree.proofs.Seeking.{following-is}
+use Rattle.pretree.proofs.Sought as Sought
+use Rattle.pretree.proofs.Found.{bits-there, root-stands}
 use Rattle.pretree.proofs.Ended.{endPart, all-gone, rows-gone}
 use Rattle.pretree.proofs.Resuming.{resumes, Told, told, rows-used, shown-used}
-use Rattle.pretree.proofs.Pushing.{rises-within, Pushed, none-pushed, is-pushed}
+use Rattle.pretree.proofs.Pushing.{rises-within, Pushed, none-pushed, is-pushed, no-end-row}
 
 -- where the row above is remembered, the new row is linked there
-pub hooks : (rows : ℕ → Row) (n m above i : ℕ) (s : Side) (table : List ℕ) (b : Bool) → hooking (remembered rows n b m above s) i table ≡ hooked b above s i table
+pub hooks : (rows : ℕ → Rows.Row) (n m above i : ℕ) (s : Side) (table : List ℕ) (b : Bool)
+    → hooking (remembered rows n b m above s) i table ≡ hooked b above s i table
 unfolding stepAt
 hooks rows n m above i s table true = refl
 hooks rows n m above i s table false = refl
 
--- where the word is not there: the writes one after the other, and the outcome in the order of document 01's refusals
-module _ (h : Header) (table : List ℕ) (k from bits : ℕ) (p : Walk) where
+-- the numbers of a leg are those of the walk that is with it
+module _ (count : ℕ) (l : Leg) (p : Walk) (on : OnLeg count l p) where
+  end-bits : endBits l ≡ p .bits
+  end-bits = bits-there (l .at) p (on .stands)
+
+  end-side : endSide l ≡ sideOf (p .path % 2)
+  end-side = rw (end-bits, on .stands .path, shl-shr (p .path) (p .bits))
+
+-- where the word is not there: the writes one after the other, and the outcome
+module _ (h : Header) (table : List ℕ) (k from bits end above : ℕ) (s : Side) where
   pub writes-grow : {entry : Entry} {pushed linked after : List ℕ}
-      → entry ≡ left-from (rowAt table) (p .bits) (bits - p .bits) from (record { key = k })
-      → pushed ≡ taking (takes-from (rowAt table) (p .bits) (bits - p .bits) from (record { key = k })) table
-      → linked ≡ hooked (ltb (p .bits) (h .width)) (p .above) (sideOf (p .path % 2)) (h .count) pushed
+      → entry ≡ left-from (rowAt table) end (bits - end) from (record { key = k })
+      → pushed ≡ taking (takes-from (rowAt table) end (bits - end) from (record { key = k })) table
+      → linked ≡ hooked (ltb end (h .width)) above s (h .count) pushed
       → after ≡ withRow (h .count) (record { entry = entry; left = 0; right = 0 }) linked
-      → after ≡ grownAt h table k from bits p
+      → after ≡ grownAt h table k from bits end above s
   unfolding grownAt
   writes-grow e t l a = rw (a, l, t, e)
 
-  pub on-damage : isDamage (p .stage) ≡ true → outcomeWhere h table k from bits p ≡ record { reply = refused h Damage; table = table }
-  unfolding outcomeWhere
-  on-damage d = rw d
+  pub on-full : h .count ≡ capacity table → grownOutcome h table k from bits end above s ≡ record { reply = refused h Full; table = table }
+  unfolding grownOutcome
+  on-full full = rw (eq-eqb _ _ full)
 
-  module _ (unbroken : isDamage (p .stage) ≡ false) where
-    pub on-full : h .count ≡ capacity table → outcomeWhere h table k from bits p ≡ record { reply = refused h Full; table = table }
-    unfolding outcomeWhere
-    on-full full = rw (unbroken, eq-eqb _ _ full)
-
-    pub on-done : (h .count ≡ capacity table → ⊥)
-        → outcomeWhere h table k from bits p
-        ≡ record {
-          reply = answered (record { width = h .width; count = suc (h .count) }) Done (rowsRead p (h .width));
-          table = grownAt h table k from bits p;
-        }
-    unfolding outcomeWhere
-    on-done room = rw (unbroken, ne-eqb _ _ room)
+  pub on-done : (h .count ≡ capacity table → ⊥)
+      → grownOutcome h table k from bits end above s
+      ≡ record {
+        reply = answered (record { width = h .width; count = suc (h .count) }) Done (h .width - end);
+        table = grownAt h table k from bits end above s;
+      }
+  unfolding grownOutcome
+  on-done room = rw (ne-eqb _ _ room)
 
 module _ (h : Header) (table : List ℕ) (k : ℕ) (w : Walk) (fine : wrong-header h table ≡ false)
     (gone : Walked (rowAt table) (seeking k k) (h .width) (h .count) (shown h table) w) where
-  abbrev rows : ℕ → Row
+  abbrev rows : ℕ → Rows.Row
   rows = rowAt table
 
   -- the way of the word, the push from where it ends, and both joined
@@ -86,18 +96,10 @@ module _ (h : Header) (table : List ℕ) (k : ℕ) (w : Walk) (fine : wrong-head
   abbrev whole : Way
   whole = joined first push
 
-  on-whole : Going rows pushing (h .width) (w .count) whole (resumed w)
-  on-whole = resumes rows (seeking k k) pushing (h .width) (h .count) (shown h table) w gone
-
-  -- the walk can go on
-  pub goes-on : GoingSome rows pushing (resumed w)
-  goes-on =
-      record {
-        width = h .width;
-        whole = whole;
-        at-most-32 = right-header h table fine .at-most-32;
-        going = on-whole;
-      }
+  on-whole : Going rows pushing (h .width) (h .count) whole (resumed w)
+  on-whole =
+      subst (λ (n : ℕ). Going rows pushing (h .width) n whole (resumed w)) (gone .walking .same-count)
+      (resumes rows (seeking k k) pushing (h .width) (h .count) (shown h table) w gone)
 
   pub in-table : w .count ≤ capacity table
   in-table = rw (gone .walking .same-count) (right-header h table fine .has-room)
@@ -107,25 +109,32 @@ module _ (h : Header) (table : List ℕ) (k : ℕ) (w : Walk) (fine : wrong-head
     by-numbers : Pushed rows (w .count) (w .bits) (w .row) (w .low) v
     used : All (λ s. s .at < w .count) (v .passed)
 
+  from-end : (P : Way → Type 0) (t : Tree) → t ≡ first .end → w .bits ≡ first .bits → P (way pushing (w .bits) t) → P push
+  from-end P t e b p = rw (← e, ← b) p
+
   known : Known push
   known = by-stage (w .stage) (gone .ended) (gone .walking .goes)
     where
-      from-end : (t : Tree) → t ≡ first .end → w .bits ≡ first .bits → Known (way pushing (w .bits) t) → Known push
-      from-end t e b p = rw (← e, ← b) p
-
       ended-there : (t : Tree) → Known (Ways.ending (w .bits) t)
       ended-there t = record { by-numbers = none-pushed rows (w .count) (w .bits) (w .row) (w .low) t; used = none-all }
 
       by-stage : (stage : Stage) → isOn stage ≡ false → Goes rows (h .width) first w (to-come rows (seeking k k) w stage) → Known push
       by-stage On off g = absurd (true≢false off)
-      by-stage AtNone off g = from-end none (g .end) (g .bits) (rw (at-none pushing (w .bits)) (ended-there none))
-      by-stage AtDamage off g = from-end damaged (g .end) (g .bits) (rw (at-damage pushing (w .bits)) (ended-there damaged))
+      by-stage AtNone off g = from-end Known none (g .end) (g .bits) (rw (at-none pushing (w .bits)) (ended-there none))
+      by-stage AtDamage off g = from-end Known damaged (g .end) (g .bits) (rw (at-damage pushing (w .bits)) (ended-there damaged))
       by-stage AtRow off g =
-          from-end (treeAt rows w) (g .end) (g .bits)
+          from-end Known (treeAt rows w) (g .end) (g .bits)
           (record {
             by-numbers = is-pushed rows (w .count) (w .bits) (w .path) (w .low) (w .row);
             used = rows-used rows pushing (w .count) (w .bits) (w .path) (w .low) (w .row);
           })
+
+  -- a push from a row with bits left does not end at a row
+  ends-free : (m : ℕ) → w .stage ≡ AtRow → w .bits ≡ suc m → endRows (push .end) ≡ 0
+  ends-free m at bits =
+      let g : Goes rows (h .width) first w (to-come rows (seeking k k) w AtRow)
+      = subst (λ (s : Stage). Goes rows (h .width) first w (to-come rows (seeking k k) w s)) at (gone .walking .goes) in
+      from-end (λ (v : Way). endRows (v .end) ≡ 0) (treeAt rows w) (g .end) (g .bits) (rw bits (no-end-row rows (w .count) m (w .path) (w .low) (w .row)))
 
   pub there : ends-at k first ≡ endsAt k (w .key) (w .stage)
   there = rw (all-gone rows _ _ _ _ w gone .end) (by-stage (w .stage))
@@ -151,17 +160,18 @@ module _ (h : Header) (table : List ℕ) (k : ℕ) (w : Walk) (fine : wrong-head
       by-stage AtRow e = refl
       by-stage AtDamage e = sym e
 
-  pub present-outcome : too-wide h k ≡ false → endsAt k (w .key) (w .stage) ≡ true
+  present-outcome : too-wide h k ≡ false → endsAt k (w .key) (w .stage) ≡ true
       → addOutcome h table k ≡ record { reply = answered h AlreadyThere (rowsRead w (h .width)); table = table }
   unfolding addOutcome adding
   present-outcome small e = rw (fine, small, following-is k, there, e, whole-there e, rows-gone rows _ _ _ _ w gone)
 
-  module _ (p : Walk) (on : GoneOn rows pushing (resumed w) p) where
-    abbrev going : Going rows pushing (h .width) (w .count) whole p
-    going = on .gone (h .width) whole on-whole
+  -- the walk p went on to the end of the push
+  module _ (p : Walk) (goes : GoesOn rows pushing (h .count) (resumed w) p) (off : isOn (p .stage) ≡ false) where
+    abbrev going : Going rows pushing (h .width) (h .count) whole p
+    going = goes (h .width) whole on-whole
 
-    all-told : Told rows pushing (h .width) (w .count) whole p (on .ended) going (p .stage)
-    all-told = told rows pushing (h .width) (w .count) whole p (on .ended) going
+    all-told : Told rows pushing (h .width) (h .count) whole p off going (p .stage)
+    all-told = told rows pushing (h .width) (h .count) whole p off going
 
     -- the push by its numbers
     end-is : push .bits ≡ p .bits
@@ -171,17 +181,17 @@ module _ (h : Header) (table : List ℕ) (k : ℕ) (w : Walk) (fine : wrong-head
     passed-is : length (push .passed) ≡ w .bits - p .bits
     passed-is = omega (arith, known .by-numbers .number, end-is)
 
-    pub growable : Growable h table (w .row) (w .bits) p
+    grows : Growable h table (w .row) (w .bits) (p .bits) (p .above)
     unfolding joined stepAt
-    growable =
+    grows =
         let right = right-header h table fine in
         record {
-          narrow = le-trans (gone .walking .fits) (right .at-most-32);
+          within = gone .walking .fits;
           fits = omega (arith, known .by-numbers .number, end-is);
           rising =
               rises-within rows (w .count) (capacity table) (p .bits) (w .bits - p .bits) (w .row) (w .low) in-table
               (rw (end-is, passed-is) at (known .by-numbers .rising));
-          above =
+          above-used =
               λ some.
               let all : All (λ s. s .at < h .count) (first .passed ++ push .passed)
               = all-append (shown-used (seeking k k) h table) (rw (gone .walking .same-count) at (known .used)) in
@@ -189,10 +199,8 @@ module _ (h : Header) (table : List ℕ) (k : ℕ) (w : Walk) (fine : wrong-head
               lt-of-lt-of-le (rw (all-told .above, lt-ltb (p .bits) (h .width) some) at last) (right .has-room);
         }
 
-    pub fits-width : p .bits ≤ h .width
-    fits-width = going .fits
-
-    grown-is : grown (h .count) (adding-by k first push whole false) table ≡ grownAt h table k (w .row) (w .bits) p
+    grown-is : grown (h .count) (adding-by k first push whole false) table
+        ≡ grownAt h table k (w .row) (w .bits) (p .bits) (p .above) (sideOf (p .path % 2))
     unfolding grown grownAt joined
     grown-is =
         rw (
@@ -212,6 +220,116 @@ module _ (h : Header) (table : List ℕ) (k : ℕ) (w : Walk) (fine : wrong-head
     unfolding Ways.rows
     whole-rows = rw (all-told .number, all-told .end-rows)
 
-    pub absent-outcome : too-wide h k ≡ false → endsAt k (w .key) (w .stage) ≡ false → addOutcome h table k ≡ outcomeWhere h table k (w .row) (w .bits) p
-    unfolding addOutcome adding outcomeWhere
-    absent-outcome small e = rw (fine, small, following-is k, there, e, whole-broken, whole-rows, grown-is)
+    -- from a row with bits left it did not end at a row
+    pub not-at-row : (m : ℕ) → w .stage ≡ AtRow → w .bits ≡ suc m → p .stage ≡ AtRow → ⊥
+    unfolding joined
+    not-at-row m at bits ends =
+        let one : endRows (push .end) ≡ 1 = all-told .end-rows ∙ ap endRead ends in
+        let no-row : endRows (push .end) ≡ 0 = ends-free m at bits in
+        omega arith
+
+    module _ (small : too-wide h k ≡ false) (absent : endsAt k (w .key) (w .stage) ≡ false) where
+      pub damage-outcome : p .stage ≡ AtDamage → addOutcome h table k ≡ record { reply = refused h Answers.Damage; table = table }
+      unfolding addOutcome adding
+      damage-outcome ends = rw (fine, small, following-is k, there, absent, whole-broken, ends)
+
+      free-outcome : p .stage ≡ AtNone
+          → addOutcome h table k ≡ grownOutcome h table k (w .row) (w .bits) (p .bits) (p .above) (sideOf (p .path % 2))
+      unfolding addOutcome adding grownOutcome
+      free-outcome ends =
+          rw (fine, small, following-is k, there, absent, whole-broken, whole-rows, grown-is, ends, add-zero (h .width - p .bits))
+
+    -- by the numbers of the code, with the leg l where p is
+    module _ (from bits : ℕ) (l : Leg) (row : from ≡ w .row) (left : bits ≡ w .bits) (on : OnLeg (h .count) l p) where
+      pub growable : Growable h table from bits (endBits l) (l .above)
+      growable = rw (row, left, end-bits (h .count) l p on, on .above) grows
+
+      pub grown-outcome : too-wide h k ≡ false → endsAt k (w .key) (w .stage) ≡ false → p .stage ≡ AtNone
+          → addOutcome h table k ≡ grownOutcome h table k from bits (endBits l) (l .above) (endSide l)
+      grown-outcome small absent ends =
+          rw (row, left, end-side (h .count) l p on, end-bits (h .count) l p on, on .above) (free-outcome small absent ends)
+
+  -- where the way ended at no row, the walk stays as it is
+  stays : (stage : Stage) → w .stage ≡ stage → again stage ≡ stage → GoesOn rows pushing (h .count) (resumed w) w
+  stays stage at same width v g =
+      let is : resumed w ≡ w = ap (λ (s : Stage). ended w s (w .key)) (ap again at ∙ same ∙ sym at) in
+      subst (λ (u : Walk). Going rows pushing width (h .count) v u) is g
+
+-- the empty set: the root is the place of the new row
+module _ (h : Header) (table : List ℕ) (k : ℕ) (fine : wrong-header h table ≡ false) (empty : h .count ≡ 0) where
+  root-walked : Walked (rowAt table) (seeking k k) (h .width) (h .count) (shown h table) (started h)
+  root-walked = record { walking = begins-root h table (seeking k k); ended = rw (eq-eqb (h .count) 0 empty) }
+
+  at-root : started h .stage ≡ AtNone
+  at-root = rw (eq-eqb (h .count) 0 empty)
+
+  abbrev rootLeg : Leg
+  rootLeg = record { at = rootPlace (h .width); above = 0 }
+
+  root-on : OnLeg (h .count) rootLeg (started h)
+  root-on =
+      record { stands = root-stands h (right-header h table fine .at-most-32); above = refl; same-count = refl }
+
+  pub root-growable : Growable h table 0 (h .width) (endBits rootLeg) 0
+  root-growable =
+      growable h table k (started h) fine root-walked (started h) (stays h table k (started h) fine root-walked AtNone at-root refl) (root-walked .ended)
+      0 (h .width) rootLeg refl refl root-on
+
+  pub root-outcome : too-wide h k ≡ false → addOutcome h table k ≡ grownOutcome h table k 0 (h .width) (endBits rootLeg) 0 (endSide rootLeg)
+  root-outcome small =
+      grown-outcome h table k (started h) fine root-walked (started h) (stays h table k (started h) fine root-walked AtNone at-root refl) (root-walked .ended)
+      0 (h .width) rootLeg refl refl root-on small (rw at-root) at-root
+
+-- where the seek of the word ended
+module _ (h : Header) (table : List ℕ) (k : ℕ) (fine : wrong-header h table ≡ false) (small : too-wide h k ≡ false) (s : Seek) where
+  abbrev rows-there : ℕ → Rows.Row
+  rows-there = rowAt table
+
+  module _ (g : SeekEnds rows-there h (shown h table) k s None) where
+    abbrev w : Walk
+    w = g .walk
+
+    abbrev linkLeg : Leg
+    linkLeg = record { at = placeOf s k; above = s .above }
+
+    link-on : OnLeg (h .count) linkLeg w
+    link-on =
+        record {
+          stands = Sought.place-stands table h k fine small s None g;
+          above = g .above;
+          same-count = g .walked .walking .same-count;
+        }
+
+    pub link-growable : Growable h table (s .row) (bitsLeft (s .mask)) (endBits linkLeg) (s .above)
+    link-growable =
+        growable h table k w fine (g .walked) w (stays h table k w fine (g .walked) AtNone (g .ends) refl) (g .walked .ended) (s .row) (bitsLeft (s .mask)) linkLeg
+        (g .row) (Sought.bits-are table h k fine small s None g) link-on
+
+    pub link-outcome : addOutcome h table k ≡ grownOutcome h table k (s .row) (bitsLeft (s .mask)) (endBits linkLeg) (s .above) (endSide linkLeg)
+    link-outcome =
+        grown-outcome h table k w fine (g .walked) w (stays h table k w fine (g .walked) AtNone (g .ends) refl) (g .walked .ended) (s .row) (bitsLeft (s .mask))
+        linkLeg (g .row) (Sought.bits-are table h k fine small s None g) link-on small (ap (endsAt k (w .key)) (g .ends)) (g .ends)
+
+  pub broken-outcome : SeekEnds rows-there h (shown h table) k s Damage → addOutcome h table k ≡ record { reply = refused h Answers.Damage; table = table }
+  broken-outcome g =
+      let v : Walk = g .walk in
+      damage-outcome h table k v fine (g .walked) v (stays h table k v fine (g .walked) AtDamage (g .ends) refl) (g .walked .ended) small (ap (endsAt k (v .key)) (g .ends)) (g .ends)
+
+  module _ (r : Rows.Row) (g : SeekEnds rows-there h (shown h table) k s (Row r)) where
+    pub there-outcome : r .entry .key ≡ k
+        → addOutcome h table k ≡ record { reply = answered h AlreadyThere (h .width - bitsLeft (s .mask) + 1); table = table }
+    there-outcome same =
+        let v : Walk = g .walk in
+        let at-word : endsAt k (v .key) (v .stage) ≡ true = rw (g .ends .0, g .ends .2, eq-eqb k (r .entry .key) (sym same)) in
+        rw (present-outcome h table k v fine (g .walked) small at-word, Sought.bits-are table h k fine small s (Row r) g, g .ends .0)
+
+    pub displaces : (r .entry .key ≡ k → ⊥) → Displaces h table k (placeOf s k) r
+    displaces another =
+        record {
+          walk = g .walk;
+          walked = g .walked;
+          stands = Sought.place-stands table h k fine small s (Row r) g;
+          path = g .path;
+          ends = g .ends;
+          another = another;
+        }

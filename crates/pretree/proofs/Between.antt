@@ -1,4 +1,4 @@
--- How far a key lies from a word tells whether it has the bits of the word's path: the numbers of a skim.
+-- How far a key lies from a word tells whether it has the bits of the word's path: the numbers of a seek.
 use Prim.Native.Nat.{ℕ, zero, suc, pred, _+_, _*_, _-_, _/_, _%_, _^_, _≤_, _<_}
 use mathlib.Core.Path.{_≡_, refl, sym, ap, _∙_, subst}
 use mathlib.Core.Bool.{Bool, true, false, not, _&&_}
@@ -13,7 +13,7 @@ use borrow.Author.Tests.{lt-ltb, le-ltb, le-leb, lt-leb, eq-eqb, ne-eqb, ltb-tru
 use Rattle.ordered.specs.Such.{if_then_else_}
 use Rattle.ordered.specs.Word.{Side, left, right, bitOf, side}
 use Rattle.ordered.proofs.Bits.{next-bit}
-use Rattle.pretree.specs.Skim.{bitsLeft}
+use Rattle.pretree.specs.Seek.{bitsLeft}
 
 -- The words with the bits of k's path, where b bits are left: they begin at k / 2 ^ b * 2 ^ b, and k is the k % 2 ^ b th of them.
 module _ (k key b : ℕ) where

@@ -14,9 +14,9 @@ use Rattle.ordered.specs.Way.{Way, Rule, way, ending, endRows}
 use Rattle.ordered.specs.Way as Ways
 use Rattle.ordered.specs.Reading.{right-left-aside}
 use Rattle.pretree.specs.declared.Row.{Row}
-use Rattle.pretree.specs.declared.walk.Stage.{Stage}
-use Rattle.pretree.specs.declared.walk.Stage.the-variants.{On, AtNone, AtRow, AtDamage}
-use Rattle.pretree.specs.declared.walk.Walk.{Walk}
+use Rattle.pretree.specs.Walk.{Stage}
+use Rattle.pretree.specs.Walk.{On, AtNone, AtRow, AtDamage}
+use Rattle.pretree.specs.Walk.{Walk}
 use Rattle.pretree.specs.Walk.{isOn, rowsRead, endRead, treeAt, to-come, below, remembered, Goes, Placed, Walked}
 use Rattle.pretree.proofs.Unfolding.{is-row}
 

@@ -8,22 +8,15 @@ use Rattle.ordered.specs.Word.{Side, left, right, other}
 use Rattle.ordered.specs.Tree.{Entry, part, exists}
 use Rattle.ordered.specs.Way.{down, to, stop}
 use Rattle.pretree.specs.declared.Row.{Row}
-use Rattle.pretree.specs.declared.walk.Turn.the-variants.{Stop}
 use Rattle.pretree.specs.Table.{link}
-use Rattle.pretree.specs.Walk.{turnOf, toward, below, downTurn}
+use Rattle.pretree.specs.Walk.{below, downTurn}
 use Rattle.pretree.proofs.Unfolding.{there}
-use Rattle.pretree.proofs.Seeking.{turn-toward}
 
 module _ (rows : ℕ → Row) (n m i : ℕ) (e : Entry) where
   side-there : (s : Side) → exists (part s (below rows n (suc m) i left) (below rows n (suc m) i right)) ≡ not (eqb (link (rows i) s) 0)
   side-there left = there rows n m _ _ (rows i .left)
   side-there right = there rows n m _ _ (rows i .right)
 
-  pub down-says : (s : Side) → down s m e (below rows n (suc m) i left) (below rows n (suc m) i right) ≡ turnOf (downTurn s (rows i))
+  pub down-says : (s : Side) → down s m e (below rows n (suc m) i left) (below rows n (suc m) i right) ≡ (downTurn s (rows i))
   unfolding down
-  down-says s = rw (side-there s, side-there (other s)) (go (not (eqb (link (rows i) s) 0)) (not (eqb (link (rows i) (other s)) 0)))
-    where
-      go : (a b : Bool) → (if a then to s else if b then to (other s) else stop) ≡ turnOf (if a then toward s else if b then toward (other s) else Stop)
-      go true b = sym (turn-toward s)
-      go false true = sym (turn-toward (other s))
-      go false false = refl
+  down-says s = rw (side-there s, side-there (other s))

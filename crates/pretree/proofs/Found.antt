@@ -1,133 +1,247 @@
--- The reply of `has`, from the walk that went the way of the word.
-use Prim.Native.Nat.{ℕ, _+_, _-_, _≤_, _<_}
-use mathlib.Core.Path.{_≡_, refl, sym, ap, _∙_, subst}
-use mathlib.Core.Bool.{Bool, true, false, _||_}
-use mathlib.Core.List.{List, [], _∷_}
-use native.Mathlib.Nat.{add-zero, sub-self, le-trans, mod-lt}
+-- What a call that looks for a word answers where its way ended, by the end that the code found there.
+use Prim.Native.Nat.{ℕ, zero, suc, _+_, _-_, _^_, _≤_, _<_}
+use mathlib.Core.Path.{_≡_, refl, sym, ap, _∙_}
+use mathlib.Core.Bool.{Bool, true, false, _||_, or-false}
+use mathlib.Core.List.{List, []}
+use native.Mathlib.Nat.{add-zero, zero-add, zero-mul}
 use native.Mathlib.Omega.{arith}
-use lib.Pow.{pow-pos}
-use borrow.Author.Tests.{lt-ltb, le-ltb, ne-eqb}
-use lib.Dec.{eqb}
+use lib.Dec.{ltb, eqb}
+use lib.Pow.{pow-pos, pow-mono}
+use borrow.Author.Tests.{ltb-true, eq-eqb, ne-eqb}
 use Rattle.ordered.specs.Such.{if_then_else_, such, no-such, only-if}
-use Rattle.ordered.specs.Way.{broken, isDamaged}
-use Rattle.ordered.specs.Reading.{rowsOf, brokenIn, keyAt, has}
+use Rattle.ordered.specs.Word.{right}
+use Rattle.ordered.specs.Tree.{Tree, none, row, damaged}
+use Rattle.ordered.specs.Way.{Way, Rule, way, ending, broken, isDamaged, staying, down}
+use Rattle.ordered.specs.Way as Ways
+use Rattle.ordered.specs.Reading.{rowsOf, brokenIn, keyAt, to-its-end, has}
 use Rattle.pretree.specs.declared.Header.{Header}
-use Rattle.pretree.specs.declared.Answer.the-variants.{Done, Damage, NoSuchWord}
+use Rattle.pretree.specs.declared.Answer.the-variants.{Done, Word, WrongHeader, Damage, NoSuchWord}
 use Rattle.pretree.specs.declared.Reply.{Reply}
-use Rattle.pretree.specs.declared.walk.Stage.{Stage}
-use Rattle.pretree.specs.declared.walk.Stage.the-variants.{On, AtNone, AtRow, AtDamage}
-use Rattle.pretree.specs.declared.walk.Walk.{Walk}
+use Rattle.pretree.specs.declared.Row as Rows
+use Rattle.pretree.specs.declared.leg.End.{End}
+use Rattle.pretree.specs.declared.leg.End as Ends
+use Rattle.pretree.specs.declared.leg.Leg.{Leg}
+use Rattle.pretree.specs.declared.leg.Place.{Place}
+use Rattle.pretree.specs.declared.seek.Seek.{Seek}
 use Rattle.pretree.specs.Table.{rowAt}
-use Rattle.pretree.specs.Unfold.{shown}
+use Rattle.pretree.specs.Unfold.{judged, unfolded, shown}
 use Rattle.pretree.specs.Reply.{wrong-header, too-wide, refused, answered}
-use Rattle.pretree.specs.Find.{hasReply, saying, done}
-use Rattle.pretree.specs.Found.{found-by}
-use Rattle.pretree.specs.declared.skim.Skim.{Skim}
-use Rattle.pretree.specs.Walk.{started, endRead, rowsRead, seeking, Walked}
-use Rattle.pretree.specs.Skim.{bitsLeft, passes, endOf, Shows, Skimmed}
-use Rattle.pretree.proofs.Checks.{right-header}
-use Rattle.pretree.proofs.Walking.{begins-root}
+use Rattle.pretree.specs.Find.{read-reply, saying, done, hasReply}
+use Rattle.pretree.specs.Walk.{Walk, On, AtDamage, isOn, rowsRead, started, startedAt, ended, holds, treeAt, to-come, seeking, Placed, Walking, Walked}
+use Rattle.pretree.specs.Resume.{Going}
+use Rattle.pretree.specs.Seek.{bitsLeft, endAt, Sought, SeekEnds}
+use Rattle.pretree.specs.Leg.{rootPlace, judges, rowEnd, EndsSo, Stands, OnLeg, BegunLeg, LegGone, LegEnds, passesDown, stageHere}
+use Rattle.pretree.specs.Found.{foundBy, wordBy, then-by, GreatestFrom, greatestBy}
+use Rattle.pretree.proofs.Unfolding.{is-damaged, is-row}
 use Rattle.pretree.proofs.Between.{bits-are}
-use Rattle.pretree.proofs.Skimming.{Ends, ends-so}
+use Rattle.pretree.proofs.Walking.{at-none, at-damage, begins}
 use Rattle.pretree.proofs.Ended.{endsIn, all-gone, rows-gone}
 use Rattle.pretree.proofs.Seeking.{following-is}
+use Rattle.pretree.proofs.Sought as Seeks
+use Rattle.pretree.proofs.Legs.{down-ends}
 
+-- a walk that ended so has ended
+pub has-ended : (rows : ℕ → Rows.Row) (w : Walk) (e : End) → EndsSo rows w e → isOn (w .stage) ≡ false
+has-ended rows w Ends.the-variants.None at = rw at
+has-ended rows w (Ends.the-variants.Row r) so = rw (so .0)
+has-ended rows w Ends.the-variants.Damage at = rw at
+
+-- the bits left at a place
+pub bits-there : (p : Place) (w : Walk) → Stands p w → bitsLeft (p .mask) ≡ w .bits
+bits-there p w at = ap bitsLeft (at .mask) ∙ bits-are (w .bits) (at .few)
+
+-- the word at which a second way ended, after n rows
+module _ (h : Header) (n : ℕ) (rows : ℕ → Rows.Row) (f : Rule) (m count : ℕ) (tree : Tree) (w : Walk) (gone : Walked rows f m count tree w) where
+  pub word-ends : (e : End) → EndsSo rows w e → then-by h n (way f m tree) ≡ wordBy h (n + (m - w .bits)) e
+  unfolding broken
+  word-ends e so = rw (rows-gone _ _ _ _ _ w gone, all-gone _ _ _ _ _ w gone .end) (by-end e so)
+    where
+      by-end : (e : End) → EndsSo rows w e
+          → (let t : Tree = endsIn rows w (w .stage) in
+          if isDamaged t then refused h Damage else answered h (saying Word (keyAt t)) (n + rowsRead w m))
+          ≡ wordBy h (n + (m - w .bits)) e
+      by-end Ends.the-variants.None at = rw at (ap (answered h NoSuchWord) (omega arith))
+      by-end (Ends.the-variants.Row r) so = rw (so .0, so .2) (ap (answered h (Word (r .entry .key))) (omega arith))
+      by-end Ends.the-variants.Damage at = rw at
+
+-- whether the word is there, where its way ended so
 module _ (h : Header) (table : List ℕ) (k : ℕ) (w : Walk) (fine : wrong-header h table ≡ false) (small : too-wide h k ≡ false)
     (gone : Walked (rowAt table) (seeking k k) (h .width) (h .count) (shown h table) w) where
-  pub found-at : (stage : Stage) → w .stage ≡ stage → hasReply h table k ≡ found-by h k (w .key) (rowsRead w (h .width)) stage
+  pub found-ends : (e : End) → EndsSo (rowAt table) w e → hasReply h table k ≡ foundBy h k (h .width - w .bits) e
   unfolding hasReply has brokenIn broken rowsOf
-  found-at stage at =
-      rw (fine, small, following-is k, rows-gone _ _ _ _ _ w gone, add-zero, all-gone _ _ _ _ _ w gone .end)
-      (by-stage (w .stage) ∙ ap (found-by h k (w .key) (rowsRead w (h .width))) at)
+  found-ends e so =
+      rw (fine, small, following-is k, rows-gone _ _ _ _ _ w gone, add-zero, all-gone _ _ _ _ _ w gone .end) (by-end e so)
     where
-      by-key : (b : Bool)
-          → answered h (saying done (if b then such (w .key) else no-such)) (rowsRead w (h .width))
-          ≡ (if b then answered h Done (rowsRead w (h .width)) else answered h NoSuchWord (rowsRead w (h .width)))
-      by-key true = refl
-      by-key false = refl
+      by-key : (b : Bool) (n : ℕ)
+          → answered h (saying done (if b then such (w .key) else no-such)) n
+          ≡ (if b then answered h Done n else answered h NoSuchWord n)
+      by-key true n = refl
+      by-key false n = refl
 
-      by-stage : (stage : Stage)
-          → (if isDamaged (endsIn (rowAt table) w stage) || false then refused h Damage
-          else answered h (saying done (only-if (eqb k) (keyAt (endsIn (rowAt table) w stage)))) (rowsRead w (h .width)))
-          ≡ found-by h k (w .key) (rowsRead w (h .width)) stage
-      by-stage On = refl
-      by-stage AtNone = refl
-      by-stage AtRow = by-key (eqb k (w .key))
-      by-stage AtDamage = refl
+      by-end : (e : End) → EndsSo (rowAt table) w e
+          → (let t : Tree = endsIn (rowAt table) w (w .stage) in
+          if isDamaged t || false then refused h Damage
+          else answered h (saying done (only-if (eqb k) (keyAt t))) (rowsRead w (h .width)))
+          ≡ foundBy h k (h .width - w .bits) e
+      by-end Ends.the-variants.None at = rw at (ap (answered h NoSuchWord) (omega arith))
+      by-end (Ends.the-variants.Row r) so = rw (so .0, ← so .2) (by-key (eqb k (w .key)) (h .width - w .bits + 1))
+      by-end Ends.the-variants.Damage at = rw at
 
--- The same where a skim stopped, whose walk has gone the way or goes it at one more row.
-module _ (h : Header) (table : List ℕ) (k : ℕ) (fine : wrong-header h table ≡ false) (small : too-wide h k ≡ false) where
-  abbrev width-few : h .width ≤ 32
-  width-few = right-header h table fine .at-most-32
+-- with no word every way is empty
+pub empty-way : (h : Header) (table : List ℕ) (f : Rule) → h .count ≡ 0 → way f (h .width) (shown h table) ≡ ending (h .width) none
+unfolding shown
+empty-way h table f empty = rw (eq-eqb (h .count) 0 empty) (at-none f (h .width))
 
-  -- with no word there is no way
-  pub nothing-found : h .count ≡ 0 → answered h NoSuchWord 0 ≡ hasReply h table k
-  nothing-found empty =
-      let at : started h .stage ≡ AtNone = rw empty in
-      let gone : Walked (rowAt table) (seeking k k) (h .width) (h .count) (shown h table) (started h)
-      = record { walking = begins-root h table (seeking k k); ended = rw at } in
-      sym (found-at h table k (started h) fine small gone AtNone at ∙ rw (at, sub-self (h .width)))
+-- `has`, where its seek stopped, and with no word
+pub found-sought : (h : Header) (table : List ℕ) (k : ℕ) → wrong-header h table ≡ false → too-wide h k ≡ false → (s : Seek)
+    → Sought (rowAt table) h (shown h table) k s → 0 < h .count
+    → foundBy h k (h .width - bitsLeft (s .mask)) (endAt (rowAt table) (h .count) k s) ≡ hasReply h table k
+found-sought h table k fine small s g some =
+    let end : End = endAt (rowAt table) (h .count) k s in
+    let e : SeekEnds (rowAt table) h (shown h table) k s end = Seeks.seek-ends table h k fine small s g some in
+    rw (Seeks.bits-are table h k fine small s end e) (sym (found-ends h table k (e .walk) fine small (e .walked) end (e .ends)))
 
-  module _ (s : Skim) (g : Skimmed (rowAt table) h (shown h table) k s) where
-    abbrev w : Walk
-    w = g .skimming .walk
+pub none-found : (h : Header) (table : List ℕ) (k : ℕ) → wrong-header h table ≡ false → too-wide h k ≡ false → h .count ≡ 0
+    → answered h NoSuchWord 0 ≡ hasReply h table k
+unfolding hasReply has brokenIn broken rowsOf Ways.rows
+none-found h table k fine small empty = rw (fine, small, empty-way h table (Ways.following k) empty)
 
-    abbrev shows : Shows (rowAt table) k s w
-    shows = g .skimming .shows
+-- `first` and `last`: the word at which one way from the root ends
+module _ (h : Header) (table : List ℕ) (f : Rule) where
+  abbrev pub rootReply : Reply
+  rootReply = read-reply h table false Word (to-its-end [] (way f (h .width) (shown h table)))
 
-    pub bits-so : bitsLeft (s .mask) ≡ w .bits
-    bits-so = ap bitsLeft (shows .mask) ∙ bits-are (w .bits) (le-trans (g .skimming .walking .fits) width-few)
+  pub root-refused : wrong-header h table ≡ true → refused h WrongHeader ≡ rootReply
+  root-refused wrong = rw wrong
 
-    pub bits-few : bitsLeft (s .mask) ≤ h .width
-    bits-few = rw bits-so (g .skimming .walking .fits)
+  module _ (fine : wrong-header h table ≡ false) where
+    pub no-root : h .count ≡ 0 → answered h NoSuchWord 0 ≡ rootReply
+    unfolding brokenIn broken rowsOf Ways.rows
+    no-root empty = rw (fine, empty-way h table f empty)
 
-    pub rest-few : s .rest ≤ s .mask
-    rest-few = omega (arith, shows .rest, shows .mask, mod-lt k (pow-pos (w .bits)))
-
-    -- a link past the rows in use
-    pub outside : 0 < h .count → h .count ≤ s .row → refused h Damage ≡ hasReply h table k
-    outside some past =
-        let off-root : w .row ≡ 0 → ⊥ = λ e. omega (arith, shows .row) in
-        let moved : w .low ≡ 0 → ⊥ = λ e. off-root (shows .at-root e) in
-        let unused : w .count ≤ w .row = omega (arith, shows .row, g .skimming .walking .same-count) in
-        let at : w .stage ≡ AtDamage
-        = shows .stage ∙ rw (ne-eqb (w .low) 0 moved, ne-eqb (w .row) 0 off-root, le-ltb (w .row) (w .count) unused) in
-        let gone : Walked (rowAt table) (seeking k k) (h .width) (h .count) (shown h table) w
-        = record { walking = g .skimming .walking; ended = rw at } in
-        sym (found-at h table k w fine small gone AtDamage at)
-
-    -- a row that it does not pass
-    pub found-here : s .row < h .count
-        → found-by h k (rowAt table (s .row) .entry .key) (h .width - bitsLeft (s .mask) + endRead (endOf s k (rowAt table (s .row)))) (endOf s k (rowAt table (s .row)))
-        ≡ hasReply h table k
-    found-here used = subst At (sym (shows .row)) (rw bits-so (go (endOf s k (rowAt table (w .row))) there))
+    pub from-root : (h .count ≡ 0 → ⊥) → then-by h 0 (way f (h .width) (treeAt (rowAt table) (started h))) ≡ rootReply
+    unfolding shown brokenIn rowsOf
+    from-root some = rw (fine, ne-eqb (h .count) 0 some) (go (way f (h .width) (treeAt (rowAt table) (started h))))
       where
-        At : ℕ → Type 0
-        At i =
-            found-by h k (rowAt table i .entry .key) (h .width - bitsLeft (s .mask) + endRead (endOf s k (rowAt table i))) (endOf s k (rowAt table i))
-            ≡ hasReply h table k
+        go : (v : Way)
+            → then-by h 0 v
+            ≡ (if broken v || false then refused h Damage else answered h (saying Word (keyAt (v .end))) (Ways.rows v + 0))
+        go v = rw (or-false, add-zero, zero-add)
 
-        not-passed : passes s k (rowAt table (s .row) .entry .key) ≡ false
-        not-passed = rw (lt-ltb (s .row) (h .count) used) at (g .stopped)
+-- the root stands where a walk begins
+pub root-stands : (h : Header) → h .width ≤ 32 → Stands (rootPlace (h .width)) (started h)
+root-stands h few =
+    record {
+      row = refl;
+      mask = refl;
+      path = sym (zero-mul (2 ^ h .width));
+      low = refl;
+      few = few;
+      room = omega (arith, pow-pos (h .width), pow-mono few);
+    }
 
-        used-there : w .row < h .count
-        used-there = rw (← shows .row) used
+-- a way that stays ends at once
+pub stays : (m : ℕ) (t : Tree) → way staying m t ≡ ending m t
+unfolding way staying
+stays zero t = refl
+stays (suc m) none = refl
+stays (suc m) damaged = refl
+stays (suc m) (row i e l r) = refl
 
-        there : Ends (rowAt table) k s w shows (h .width) (h .count) (shown h table) (g .skimming .walking) used-there (endOf s k (rowAt table (w .row)))
-        there =
-            ends-so (rowAt table) k s w shows (h .width) (h .count) (shown h table) (g .skimming .walking) used-there
-            (subst (λ (i : ℕ). passes s k (rowAt table i .entry .key) ≡ false) (shows .row) not-passed)
+-- a row that is read by itself, if the numbers of its place judge it as the definition does
+module _ (h : Header) (n : ℕ) (rows : ℕ → Rows.Row) (count m path low : ℕ) (p : Place)
+    (alike : judges p (rows (p .row)) ≡ holds (startedAt count (p .row) m path low) (rows (p .row))) where
+  pub row-read : then-by h n (way staying m (unfolded rows count m path low (p .row))) ≡ wordBy h n (rowEnd rows count p)
+  unfolding broken Ways.rows
+  row-read = rw (alike, stays m (unfolded rows count m path low (p .row))) (go (judged count m path low (p .row) (rows (p .row))) refl)
+    where
+      go : (b : Bool) → judged count m path low (p .row) (rows (p .row)) ≡ b
+          → then-by h n (ending m (unfolded rows count m path low (p .row)))
+          ≡ wordBy h n (if b then Ends.the-variants.Row (rows (p .row)) else Ends.the-variants.Damage)
+      go true so = rw (is-row rows count m path low (p .row) so)
+      go false so = rw (is-damaged rows count m path low (p .row) so)
 
-        same-key : (x y n : ℕ) (stage : Stage) → (stage ≡ AtRow → x ≡ y) → found-by h k x n stage ≡ found-by h k y n stage
-        same-key x y n On e = refl
-        same-key x y n AtNone e = refl
-        same-key x y n AtRow e = rw (e refl)
-        same-key x y n AtDamage e = refl
+-- the leg down to the greatest word, from where it begins to where it ended
+module _ (h : Header) (table : List ℕ) (p : Place) (g : GreatestFrom h p) where
+  abbrev rows : ℕ → Rows.Row
+  rows = rowAt table
 
-        go : (stage : Stage)
-            → Ends (rowAt table) k s w shows (h .width) (h .count) (shown h table) (g .skimming .walking) used-there stage
-            → found-by h k (rowAt table (w .row) .entry .key) (h .width - w .bits + endRead stage) stage ≡ hasReply h table k
-        go stage e =
-            sym
-            (found-at h table k (e .walk) fine small (e .walked) stage (e .stage-is)
-            ∙ rw (e .bits-are, e .stage-is) (same-key _ _ (h .width - w .bits + endRead stage) stage (e .key-is)))
+  abbrev w : Walk
+  w = g .walk
+
+  -- a walk there that remembers nothing
+  abbrev fresh : Walk
+  fresh = ended (startedAt (h .count) (w .row) (w .bits) (w .path) (w .low)) (stageHere (h .count) (w .row)) 0
+
+  abbrev start : Leg
+  start = record { at = p; above = 0 }
+
+  on-leg : OnLeg (h .count) start fresh
+  on-leg =
+      record {
+        stands =
+            record {
+              row = g .stands .row;
+              mask = g .stands .mask;
+              path = g .stands .path;
+              low = g .stands .low;
+              few = g .stands .few;
+              room = g .stands .room;
+            };
+        above = refl;
+        same-count = refl;
+      }
+
+  pub greatest-begun : BegunLeg (h .count) stageHere start
+  greatest-begun = record { walk = fresh; on = on-leg; stage = refl }
+
+  walking : (f : Rule) → Walking rows f (w .bits) (h .count) (treeAt rows fresh) fresh
+  walking f = begins rows f (treeAt rows fresh) fresh refl (all (ltb (w .row) (h .count)) refl) (placed (ltb (w .row) (h .count)) refl)
+    where
+      all : (b : Bool) → ltb (w .row) (h .count) ≡ b → to-come rows f fresh (if b then On else AtDamage) ≡ way f (w .bits) (treeAt rows fresh)
+      all true used = refl
+      all false past = rw (is-damaged rows (h .count) (w .bits) (w .path) (w .low) (w .row) (rw past)) (sym (at-damage f (w .bits)))
+
+      placed : (b : Bool) → ltb (w .row) (h .count) ≡ b → Placed rows fresh (if b then On else AtDamage)
+      placed true used = ltb-true (w .row) (h .count) used
+      placed false past = tt
+
+  module _ (r : Leg) (gone : LegGone rows (down right) (h .count) stageHere (passesDown rows (h .count)) start r) where
+    ends : LegEnds rows (down right) (h .count) fresh r (rowEnd rows (h .count) (r .at))
+    ends = down-ends rows (h .count) 1 start r gone fresh on-leg refl
+
+    abbrev whole : Way
+    whole = way (down right) (w .bits) (treeAt rows fresh)
+
+    abbrev v : Walk
+    v = ends .walk
+
+    going : Going rows (down right) (w .bits) (h .count) whole v
+    going =
+        let k = walking (down right) in
+        ends .goes-on (w .bits) whole
+        (record { goes = k .goes; placed = k .placed; memory = k .memory; fits = k .fits; same-count = k .same-count })
+
+    went : Walked rows (down right) (w .bits) (h .count) (treeAt rows fresh) v
+    went =
+        record {
+          walking = record {
+            goes = going .goes;
+            placed = going .placed;
+            memory = going .memory;
+            fits = going .fits;
+            same-count = going .same-count;
+          };
+          ended = has-ended rows v (rowEnd rows (h .count) (r .at)) (ends .ends);
+        }
+
+    pub fewer-bits : bitsLeft (r .at .mask) ≤ bitsLeft (p .mask)
+    fewer-bits = rw (bits-there p w (g .stands), bits-there (r .at) v (ends .on .stands)) (going .fits)
+
+    pub greatest-is : (n : ℕ)
+        → wordBy h (n + bitsLeft (p .mask) - bitsLeft (r .at .mask)) (rowEnd rows (h .count) (r .at)) ≡ greatestBy h rows n w
+    greatest-is n =
+        rw (bits-there p w (g .stands), bits-there (r .at) v (ends .on .stands))
+        (ap (λ (m : ℕ). wordBy h m (rowEnd rows (h .count) (r .at))) (omega (arith, going .fits))
+        ∙ sym (word-ends h n rows (down right) (w .bits) (h .count) (treeAt rows fresh) v went (rowEnd rows (h .count) (r .at)) (ends .ends))
+        ∙ ap (λ (count : ℕ). then-by h n (way (down right) (w .bits) (unfolded rows count (w .bits) (w .path) (w .low) (w .row)))) (sym (g .same-count)))

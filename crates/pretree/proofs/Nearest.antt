@@ -1,34 +1,38 @@
--- The reply of `gap`, from those of `prev` and `next` and the walk that went the way of the word.
-use Prim.Native.Nat.{ℕ, suc, _+_, _≤_, _<_}
-use mathlib.Core.Path.{_≡_, refl, sym, ap, ap₂, _∙_}
+-- The reply of `gap`, from those of `prev` and `next` and the end of the way of the word.
+use Prim.Native.Nat.{ℕ, _+_, _-_, _≤_, _<_}
+use mathlib.Core.Path.{_≡_, refl, sym, ap, _∙_, subst}
 use mathlib.Core.Bool.{Bool, true, false, _||_, or-assoc}
 use mathlib.Core.List.{List, [], _∷_, _++_}
 use native.Mathlib.Nat.{add-zero}
 use native.Mathlib.Omega.{arith}
 use lib.Dec.{eqb}
-use Rattle.ordered.specs.Such.{if_then_else_, Perhaps, such, no-such, only-if}
+use Rattle.ordered.specs.Such.{if_then_else_, Perhaps, such, no-such, only-if, last-such}
+use Rattle.ordered.specs.Word.{right}
 use Rattle.ordered.specs.Tree.{Tree}
-use Rattle.ordered.specs.Way.{Way, way, broken}
-use Rattle.ordered.specs.Reading.{Reading, rowsOf, brokenIn, keyAt, nearest, gap-by, has, prev, next, gap}
+use Rattle.ordered.specs.Way.{Way, Step, way, rows, broken, following, passing-equal, down}
+use Rattle.ordered.specs.Reading.{Reading, rowsOf, brokenIn, keyAt, to-its-end, left-left-aside, prev-by, nearest, gap-by, has, prev, next, gap}
 use Rattle.ordered.proofs.Rows.{rows-append, prev-rows, next-rows}
 use Rattle.pretree.specs.declared.Header.{Header}
 use Rattle.pretree.specs.declared.Answer.{Answer}
-use Rattle.pretree.specs.declared.Answer.the-variants.{Word, Distance, Damage, WrongHeader, WordTooWide}
+use Rattle.pretree.specs.declared.Answer.the-variants.{Word, Distance, Damage, NoSuchWord}
 use Rattle.pretree.specs.declared.Reply.{Reply}
 use Rattle.pretree.specs.declared.gap.Neighbour.{Neighbour}
-use Rattle.pretree.specs.declared.walk.Stage.{Stage}
-use Rattle.pretree.specs.declared.walk.Stage.the-variants.{On, AtNone, AtRow, AtDamage}
-use Rattle.pretree.specs.declared.walk.Walk.{Walk}
+use Rattle.pretree.specs.declared.leg.End.{End}
+use Rattle.pretree.specs.declared.leg.End as Ends
+use Rattle.pretree.specs.declared.seek.Seek.{Seek}
 use Rattle.pretree.specs.Table.{rowAt}
 use Rattle.pretree.specs.Unfold.{shown}
 use Rattle.pretree.specs.Reply.{wrong-header, too-wide, refused, answered}
 use Rattle.pretree.specs.Find.{saying, prevReply, nextReply, gapReply}
-use Rattle.pretree.specs.Gap.{neighbour, from-both, between, gap-from}
-use Rattle.pretree.specs.Walk.{seeking, rowsRead, Walked}
+use Rattle.pretree.specs.Gap.{neighbour, from-both, between}
+use Rattle.pretree.specs.Walk.{Walk, Stage, seeking, Walked}
+use Rattle.pretree.specs.Leg.{EndsSo}
+use Rattle.pretree.specs.Seek.{bitsLeft, endAt, Sought, SeekEnds}
 use Rattle.pretree.proofs.Checks.{right-header}
 use Rattle.pretree.proofs.Ended.{endsIn, all-gone, rows-gone}
 use Rattle.pretree.proofs.Seeking.{following-is}
-use Rattle.pretree.proofs.Neighbours.{prev-at}
+use Rattle.pretree.proofs.Sought.{seek-ends, bits-are}
+use Rattle.pretree.proofs.Found.{empty-way}
 
 -- the reply of a reading, once the checks are passed
 abbrev reply-with : Header → (ℕ → Answer) → Reading → Reply
@@ -68,6 +72,27 @@ module _ (h : Header) (k : ℕ) (p n : Reading) where
       go false false (such x) no-such = refl
       go false false (such x) (such y) = refl
 
+-- `gap` of k, by the end of its way: n rows were passed
+abbrev pub gapBy : Header → List ℕ → ℕ → ℕ → End → Reply
+gapBy h table k n Ends.the-variants.None = between h k (prevReply h table k) (nextReply h table k)
+gapBy h table k n (Ends.the-variants.Row r) =
+    if eqb k (r .entry .key) then answered h (Distance 0) (n + 1)
+    else between h k (prevReply h table k) (nextReply h table k)
+gapBy h table k n Ends.the-variants.Damage = refused h Damage
+
+-- `prev` goes the way of k first, so what breaks that breaks it
+prev-broken : (w : Way) (a : Perhaps ℕ) (p : Perhaps Step) → broken w ≡ true → brokenIn (prev-by w a p .ways) ≡ true
+unfolding brokenIn
+prev-broken w (such x) p b = rw b
+prev-broken w no-such no-such b = rw b
+prev-broken w no-such (such p) b = go (left-left-aside p)
+  where
+    go : (c : Bool)
+        → brokenIn ((if c then to-its-end (w ∷ []) (way (down right) (p .below) (p .left-part)) else record { ways = w ∷ []; answer = such (p .entry .key) }) .ways)
+        ≡ true
+    go true = rw b
+    go false = rw b
+
 module _ (h : Header) (table : List ℕ) (k : ℕ) (fine : wrong-header h table ≡ false) (small : too-wide h k ≡ false) where
   abbrev lower : Reading
   lower = prev (h .width) k (shown h table)
@@ -102,9 +127,6 @@ module _ (h : Header) (table : List ℕ) (k : ℕ) (fine : wrong-header h table 
   absent = rw (prev-reply, next-reply) (both-say h k lower upper)
 
   module _ (w : Walk) (gone : Walked (rowAt table) (seeking k k) (h .width) (h .count) (shown h table) w) where
-    abbrev n : ℕ
-    n = rowsRead w (h .width)
-
     abbrev way-of-k : Way
     way-of-k = way (seeking k k) (h .width) (shown h table)
 
@@ -122,32 +144,45 @@ module _ (h : Header) (table : List ℕ) (k : ℕ) (fine : wrong-header h table 
     at-end = rw (fine, small, following-is k) (by-answer (only-if (eqb k) (keyAt (way-of-k .end))))
 
     -- damage on the way of k is on that of `prev` too
-    damage-below : w .stage ≡ AtDamage → between h k (prevReply h table k) (nextReply h table k) ≡ refused h Damage
-    unfolding between
-    damage-below at = rw (prev-at h table k w fine small gone, at)
+    damaged-below : broken way-of-k ≡ true → reply-with h Distance (both h k lower upper) ≡ refused h Damage
+    unfolding prev
+    damaged-below b = rw (broken-append (lower .ways) (upper .ways), prev-broken (way (following k) (h .width) (shown h table)) _ _ (rw (following-is k) b))
 
-    by-stage : (stage : Stage) → w .stage ≡ stage → way-of-k .end ≡ endsIn (rowAt table) w stage
-        → by-found (only-if (eqb k) (keyAt (endsIn (rowAt table) w stage))) ≡ gap-from h table k (w .key) n stage
+    abbrev Says : End → Stage → Type 0
+    Says e stage = by-found (only-if (eqb k) (keyAt (endsIn (rowAt table) w stage))) ≡ gapBy h table k (h .width - w .bits) e
+
+    by-end : (e : End) → EndsSo (rowAt table) w e → way-of-k .end ≡ endsIn (rowAt table) w (w .stage) → Says e (w .stage)
     unfolding by-found broken brokenIn rowsOf
-    by-stage On at e = sym absent
-    by-stage AtNone at e = sym absent
-    by-stage AtDamage at e = sym absent ∙ damage-below at
-    by-stage AtRow at e = by-key (eqb k (w .key))
+    by-end Ends.the-variants.None at ends = subst (Says Ends.the-variants.None) (sym at) (sym absent)
+    by-end Ends.the-variants.Damage at ends = subst (Says Ends.the-variants.Damage) (sym at) (damaged-below (rw (ends, at)))
+    by-end (Ends.the-variants.Row r) so ends = subst (Says (Ends.the-variants.Row r)) (sym (so .0)) (rw (← so .2) (by-key (eqb k (w .key))))
       where
         whole : broken way-of-k ≡ false
-        whole = rw e
+        whole = rw (ends, so .0)
 
-        there : reply-with h Distance (record { ways = way-of-k ∷ []; answer = such 0 }) ≡ answered h (Distance 0) n
-        there = rw (whole, rows-gone _ _ _ _ _ w gone, add-zero)
+        there : reply-with h Distance (record { ways = way-of-k ∷ []; answer = such 0 }) ≡ answered h (Distance 0) (h .width - w .bits + 1)
+        there = rw (whole, rows-gone _ _ _ _ _ w gone, add-zero, so .0)
 
         by-key : (b : Bool)
             → by-found (if b then such (w .key) else no-such)
-            ≡ (if b then answered h (Distance 0) n else between h k (prevReply h table k) (nextReply h table k))
+            ≡ (if b then answered h (Distance 0) (h .width - w .bits + 1) else between h k (prevReply h table k) (nextReply h table k))
         by-key true = there
         by-key false = sym absent
 
-    pub gap-is : gapReply h table k ≡ gap-from h table k (w .key) n (w .stage)
-    gap-is =
+    pub gap-ends : (e : End) → EndsSo (rowAt table) w e → gapReply h table k ≡ gapBy h table k (h .width - w .bits) e
+    gap-ends e so =
         at-end
         ∙ ap (λ (end : Tree). by-found (only-if (eqb k) (keyAt end))) (all-gone _ _ _ _ _ w gone .end)
-        ∙ by-stage (w .stage) refl (all-gone _ _ _ _ _ w gone .end)
+        ∙ by-end e so (all-gone _ _ _ _ _ w gone .end)
+
+  -- where its seek stopped
+  pub gap-sought : (s : Seek) → Sought (rowAt table) h (shown h table) k s → 0 < h .count
+      → gapReply h table k ≡ gapBy h table k (h .width - bitsLeft (s .mask)) (endAt (rowAt table) (h .count) k s)
+  gap-sought s g some =
+      let e : SeekEnds (rowAt table) h (shown h table) k s (endAt (rowAt table) (h .count) k s) = seek-ends table h k fine small s g some in
+      rw (bits-are table h k fine small s (endAt (rowAt table) (h .count) k s) e) (gap-ends (e .walk) (e .walked) (endAt (rowAt table) (h .count) k s) (e .ends))
+
+  -- with no word there is none near
+  pub none-near : h .count ≡ 0 → answered h NoSuchWord 0 ≡ gapReply h table k
+  unfolding gapReply gap has prev next brokenIn broken rowsOf rows last-such
+  none-near empty = rw (fine, small, empty-way h table (following k) empty, empty-way h table (passing-equal k) empty)

@@ -1,85 +1,32 @@
 -- The replies of the calls that answer a word, from the walks that went their ways.
-use Prim.Native.Nat.{ℕ, suc, _+_, _%_, _≤_, _<_}
-use mathlib.Core.Path.{_≡_, refl, sym, ap, ap₂, _∙_}
-use mathlib.Core.Bool.{Bool, true, false, not, _&&_, _||_, or-false}
+use Prim.Native.Nat.{ℕ, suc, _%_}
+use mathlib.Core.Path.{_≡_, ap, ap₂, _∙_}
+use mathlib.Core.Bool.{Bool, true, false, not, _&&_, or-false}
 use mathlib.Core.List.{List, [], _∷_}
 use native.Mathlib.Nat.{add-zero}
 use lib.Dec.{ltb, eqb}
 use Rattle.ordered.specs.Such.{if_then_else_, Perhaps, such, no-such, only-if, last-such, anything}
 use Rattle.ordered.specs.Tree.{Tree, none}
-use Rattle.ordered.specs.Way.{Way, Step, Rule, way, rows, broken, isDamaged, ending, following, staying, down}
-use Rattle.ordered.specs.Word.{Side, left, right, sideOf, isSide}
-use Rattle.ordered.specs.Reading.{Reading, rowsOf, brokenIn, keyAt, to-its-end, right-child, next-by, left-left-aside, prev-by, first, last, next, prev}
+use Rattle.ordered.specs.Way.{Way, Step, way, rows, broken, isDamaged, ending, following, down}
+use Rattle.ordered.specs.Word.{left, right, sideOf, isSide}
+use Rattle.ordered.specs.Reading.{Reading, rowsOf, brokenIn, keyAt, to-its-end, right-child, next-by, left-left-aside, prev-by, next, prev}
 use Rattle.ordered.proofs.Parts.{same-last}
 use Rattle.ordered.proofs.Ways.{passed-pass, following-seeks}
 use Rattle.pretree.specs.declared.Header.{Header}
 use Rattle.pretree.specs.declared.Answer.the-variants.{Word, Damage, NoSuchWord}
 use Rattle.pretree.specs.declared.Reply.{Reply}
-use Rattle.pretree.specs.declared.walk.Stage.{Stage}
-use Rattle.pretree.specs.declared.walk.Stage.the-variants.{On, AtNone, AtRow, AtDamage}
-use Rattle.pretree.specs.declared.walk.Walk.{Walk}
+use Rattle.pretree.specs.Walk.{Stage}
+use Rattle.pretree.specs.Walk.{On, AtNone, AtRow, AtDamage}
+use Rattle.pretree.specs.Walk.{Walk}
 use Rattle.pretree.specs.Table.{rowAt}
 use Rattle.pretree.specs.Unfold.{shown}
 use Rattle.pretree.specs.Reply.{wrong-header, too-wide, refused, answered}
-use Rattle.pretree.specs.Find.{read-reply, saying, firstReply, lastReply, nextReply, prevReply}
-use Rattle.pretree.specs.Found.{word-by, then-by, aside-from, next-from, above-by, above-from, prev-from}
-use Rattle.pretree.specs.Walk.{started, partStart, below, seeking, stepAt, remembered, rowsRead, Walked, Fell}
+use Rattle.pretree.specs.Find.{saying, nextReply, prevReply}
+use Rattle.pretree.specs.Found.{then-by, aside-from, next-from, above-by, above-from, prev-from}
+use Rattle.pretree.specs.Walk.{seeking, stepAt, remembered, rowsRead, Walked}
 use Rattle.pretree.proofs.Ended.{endsIn, all-gone, rows-gone}
 use Rattle.pretree.proofs.Unfolding.{there}
 use Rattle.pretree.proofs.Seeking.{following-is, passing-equal-is}
-use Rattle.pretree.proofs.Walking.{root-standing, part-standing}
-
--- a call whose answer is where its one way ends
-module _ (h : Header) (table : List ℕ) (fine : wrong-header h table ≡ false) (f : Rule) (w : Walk)
-    (gone : Walked (rowAt table) f (h .width) (h .count) (shown h table) w) where
-  pub word-at : read-reply h table false Word (to-its-end [] (way f (h .width) (shown h table))) ≡ word-by h (w .key) (rowsRead w (h .width)) (w .stage)
-  unfolding brokenIn broken rowsOf
-  word-at = rw (fine, rows-gone _ _ _ _ _ w gone, add-zero, all-gone _ _ _ _ _ w gone .end) (by-stage (w .stage))
-    where
-      by-stage : (stage : Stage)
-          → (let t : Tree = endsIn (rowAt table) w stage in
-          if isDamaged t || false then refused h Damage else answered h (saying Word (keyAt t)) (rowsRead w (h .width)))
-          ≡ word-by h (w .key) (rowsRead w (h .width)) stage
-      by-stage On = refl
-      by-stage AtNone = refl
-      by-stage AtRow = refl
-      by-stage AtDamage = refl
-
--- from the root
-module _ (h : Header) (table : List ℕ) (f : Rule) (w : Walk) (fell : Fell (rowAt table) f (started h) w) where
-  pub from-root : Walked (rowAt table) f (h .width) (h .count) (shown h table) w
-  from-root = rw (root-standing h table) at (fell .walked)
-
-module _ (h : Header) (table : List ℕ) (fine : wrong-header h table ≡ false) (w : Walk) where
-  pub first-at : Fell (rowAt table) staying (started h) w → firstReply h table ≡ word-by h (w .key) (rowsRead w (h .width)) (w .stage)
-  unfolding firstReply first
-  first-at fell = word-at h table fine staying w (from-root h table staying w fell)
-
-  pub last-at : Fell (rowAt table) (down right) (started h) w → lastReply h table ≡ word-by h (w .key) (rowsRead w (h .width)) (w .stage)
-  unfolding lastReply last
-  last-at fell = word-at h table fine (down right) w (from-root h table (down right) w fell)
-
--- the word at which a second way ends, from the part of row i on a side, after n rows
-module _ (h : Header) (table : List ℕ) (n m i : ℕ) (s : Side) (f : Rule) (w : Walk)
-    (fell : Fell (rowAt table) f (partStart (h .count) (rowAt table i) s m) w) where
-  gone-on : Walked (rowAt table) f m (h .count) (below (rowAt table) (h .count) (suc m) i s) w
-  gone-on = rw (part-standing table (h .count) m i s) at (fell .walked)
-
-  pub part-fits : w .bits ≤ m
-  part-fits = gone-on .walking .fits
-
-  pub then-at : then-by h n (way f m (below (rowAt table) (h .count) (suc m) i s)) ≡ word-by h (w .key) (n + rowsRead w m) (w .stage)
-  unfolding broken
-  then-at = rw (rows-gone _ _ _ _ _ w gone-on, all-gone _ _ _ _ _ w gone-on .end) (by-stage (w .stage))
-    where
-      by-stage : (stage : Stage)
-          → (let t : Tree = endsIn (rowAt table) w stage in
-          if isDamaged t then refused h Damage else answered h (saying Word (keyAt t)) (n + rowsRead w m))
-          ≡ word-by h (w .key) (n + rowsRead w m) stage
-      by-stage On = refl
-      by-stage AtNone = refl
-      by-stage AtRow = refl
-      by-stage AtDamage = refl
 
 -- the reply of a reading, once the checks are passed
 abbrev reply-of : Header → Reading → Reply

@@ -1,326 +1,589 @@
--- Laws of parts, for the calls on the whole table: what a row's part is made of, how its rows are counted, and how it is written.
-use Prim.Native.Nat.{ℕ, zero, suc, pred, _+_, _*_, _-_, _/_, _^_, _≤_, _<_}
-use mathlib.Core.Path.{_≡_, refl, sym, ap, _∙_}
-use mathlib.Core.Bool.{Bool, true, false, _&&_, _||_, and-false}
+-- Laws of parts, for the calls on the whole table: what a place and a row show, how their rows are counted, and how they are written.
+use Prim.Native.Nat.{ℕ, zero, suc, pred, _+_, _*_, _-_, _/_, _%_, _^_, _≤_, _<_}
+use mathlib.Core.Path.{_≡_, refl, sym, ap, _∙_, subst}
+use mathlib.Core.Bool.{Bool, true, false, not, _&&_, and-false}
 use mathlib.Core.List.{List, [], _∷_, _++_}
-use native.Mathlib.Nat.{sub-zero, zero-add, lt-of-not-le, not-suc-le-zero, suc-ne-zero, add-zero, add-suc, suc-add, div-le-self}
+use native.Mathlib.Nat.{suc-ne-zero, add-zero, zero-add, add-suc, suc-add, suc-mul, le-refl, le-trans, pow-suc, pos-of-ne-zero, mul-le-mul-right, mod-lt}
 use native.Mathlib.Numerals.{add-one}
 use native.Mathlib.Omega.{arith}
+use lib.Bits.{bitAnd, and-mask}
 use lib.Dec.{ltb, leb, eqb}
-use lib.ListN.{length, set, drop}
-use lib.Seq.{sets, sets-eq}
-use borrow.Author.Tests.{ltb-true, ltb-false, leb-true, leb-false, eqb-true, eqb-false, le-leb, lt-leb, eq-eqb, ne-eqb, le-ltb, lt-ltb}
+use lib.ListN.{length, set, length-set}
+use lib.Pow.{pow-pos, pow-lt, pow-add, suc-ones, split, shr-lt, shl-shr}
+use lib.Seq.{sets}
+use borrow.Author.Tests.{ltb-true, ltb-false, eqb-true, eqb-false, lt-ltb, le-ltb, eq-eqb, ne-eqb}
 use Rattle.ordered.specs.Such.{if_then_else_}
 use Rattle.ordered.specs.Word.{Side, left, right, bitOf}
 use Rattle.ordered.specs.Tree.{Tree, none, row, damaged, Entry, intact, size, listing}
+use Rattle.ordered.proofs.Ways.{and-true}
 use Rattle.ordered.proofs.OneTree.{listing-length}
-use Rattle.pretree.specs.declared.Header.{Header}
-use Rattle.pretree.specs.declared.Answer.the-variants.{Done, WrongHeader, Damage, ShortBuffer}
-use Rattle.pretree.specs.declared.Reply.{Reply}
-use Rattle.pretree.specs.declared.Row.{Row}
-use Rattle.pretree.specs.declared.whole.Place.{Place}
-use Rattle.pretree.specs.declared.whole.Rest.{Rest}
-use Rattle.pretree.specs.declared.whole.Rest.the-variants.{Rows, Damaged}
-use Rattle.pretree.specs.Table.{capacity, rowAt, link}
-use Rattle.pretree.specs.Unfold.{ends-there, judged, linked, unfolded, shown}
-use Rattle.pretree.specs.Sound.{isSound}
-use Rattle.pretree.specs.Reply.{wrong-width, wrong-header, refused, answered}
-use Rattle.pretree.specs.Whole.{listReply, listBuffer}
-use Rattle.pretree.specs.Part.{root, holds, rowPart, linkPart, sidePart, counted, Listable}
+use Rattle.pretree.specs.declared.Row as Rows
+use Rattle.pretree.specs.declared.leg.End.{End}
+use Rattle.pretree.specs.declared.leg.End.the-variants.{None, Row, Damage}
+use Rattle.pretree.specs.declared.leg.Place.{Place}
+use Rattle.pretree.specs.Table.{link}
+use Rattle.pretree.specs.Unfold.{ends-there, judged, linked, unfolded}
+use Rattle.pretree.specs.Walk.{Walk, holds, startedAt, passed, below}
+use Rattle.pretree.specs.Leg.{judges, belowPlace, rowEnd, linkEnd, Stands}
+use Rattle.pretree.specs.Seek.{bitsLeft}
+use Rattle.pretree.specs.Part.{ofPlace, rowTree, linkTree, placeTree, counted, StandsSome, Standing, StandingLink, Listable}
+use Rattle.pretree.proofs.Between.{bits-are, half-mask}
+use Rattle.pretree.proofs.Places.{judges-so, below-stands, inner}
+use Rattle.pretree.proofs.Unfolding.{is-row, is-damaged}
 
--- two tests of the same fact agree
-same-leb : (a b c d : ℕ) → (a ≤ b → c ≤ d) → (c ≤ d → a ≤ b) → leb a b ≡ leb c d
-same-leb a b c d there back = go (leb c d) refl
-  where
-    go : (t : Bool) → leb c d ≡ t → leb a b ≡ t
-    go true h = le-leb a b (back (leb-true c d h))
-    go false h = lt-leb a b (lt-of-not-le (λ k. let over : d < c = leb-false c d h in let fits : c ≤ d = there k in omega arith))
+-- ---- what counting gives
 
--- ---- what a part is made of
-
-module _ (rows : ℕ → Row) (n : ℕ) where
-  pub damaged-part : (m path low i : ℕ) → judged n m path low i (rows i) ≡ false → unfolded rows n m path low i ≡ damaged
-  unfolding unfolded
-  damaged-part zero path low i h = rw h
-  damaged-part (suc m) path low i h = rw h
-
-  -- with no bit left a row has no parts
-  pub last-part : (m path low i : ℕ) → m ≡ 0 → judged n m path low i (rows i) ≡ true → unfolded rows n m path low i ≡ row i (record { key = rows i .entry .key }) none none
-  unfolding unfolded
-  last-part zero path low i e h = rw h
-  last-part (suc m) path low i e h = absurd (suc-ne-zero m e)
-
-  -- otherwise its links lead to them
-  pub inner-part :
-      (m path low i : ℕ)
-      → (m ≡ 0 → ⊥)
-      → judged n m path low i (rows i) ≡ true
-      → let key : ℕ = rows i .entry .key in
-      let below : Side → Tree = λ s. linked (unfolded rows n (pred m) (path * 2 + bitOf s) (suc key)) (link (rows i) s) in
-      unfolded rows n m path low i ≡ row i (record { key = key }) (below left) (below right)
-  unfolding unfolded
-  inner-part zero path low i e h = absurd (e refl)
-  inner-part (suc m) path low i e h = rw h
-
--- ---- what is known of a row that is no damage
-
-both : (a b : Bool) → (a && b) ≡ true → (a ≡ true) × (b ≡ true)
-both true b h = (refl, h)
-both false b h = absurd (let z : _≡_ {A = ℕ} 0 1 = cc in omega arith)
-
--- the path to it is a front part of its key
-pub path-small : (p : Place) (r : Row) (most : ℕ) → holds p r ≡ true → r .entry .key < most → p .path < most
-path-small p r most h small =
-    let key : ℕ = r .entry .key in
-    let rest = both (leb (p .low) key) (eqb (key / 2 ^ p .bits) (p .path) && ends-there (p .bits) r) h .1 in
-    let bits : key / 2 ^ p .bits ≡ p .path = eqb-true _ _ (both (eqb (key / 2 ^ p .bits) (p .path)) (ends-there (p .bits) r) rest .0) in
-    omega (arith, div-le-self key (2 ^ p .bits))
-
--- ---- what is left after the rows of a part
-
--- the rows of the right part are counted after those of the left part
-abbrev pub onward : Rest → (ℕ → Rest) → Rest
-onward (Rows more) f = f more
-onward Damaged f = Damaged
-
-pub counted-none : (rest : ℕ) → counted none rest ≡ Rows rest
+pub counted-none : counted none ≡ 1
 unfolding counted intact size
-counted-none rest = let fits : 0 ≤ rest = omega arith in rw (le-leb, sub-zero)
+counted-none = refl
 
-pub counted-damaged : (rest : ℕ) → counted damaged rest ≡ Damaged
+pub counted-damaged : counted damaged ≡ 0
 unfolding counted intact
-counted-damaged rest = refl
+counted-damaged = refl
 
--- a row is met, so it wants that one may be
-counted-spent : (i : ℕ) (e : Entry) (l r : Tree) → counted (row i e l r) 0 ≡ Damaged
+-- both parts have no damage, or there is some
+abbrev pub both : ℕ → ℕ → ℕ
+both a b = if eqb a 0 then 0 else if eqb b 0 then 0 else a + b
+
+pub counted-row : (i : ℕ) (e : Entry) (l r : Tree) → counted (row i e l r) ≡ both (counted l) (counted r)
 unfolding counted intact size
-counted-spent i e l r = rw (lt-leb (suc (size l + size r)) 0 (omega arith), and-false)
-
-pub counted-row : (i : ℕ) (e : Entry) (l r : Tree) (rest : ℕ) → (rest ≡ 0 → ⊥) → counted (row i e l r) rest ≡ onward (counted l (rest - 1)) (counted r)
-unfolding counted intact size
-counted-row i e l r rest some = go (intact l) (leb (size l) (rest - 1)) refl
+counted-row i e l r = go (intact l) (intact r)
   where
-    go : (a b : Bool) → leb (size l) (rest - 1) ≡ b → (if (a && intact r) && leb (suc (size l + size r)) rest then Rows (rest - suc (size l + size r)) else Damaged) ≡ onward (if a && b then Rows (rest - 1 - size l) else Damaged) (counted r)
-    go false b h = refl
-    go true false h =
-        let over : rest - 1 < size l = leb-false _ _ h in
-        rw (lt-leb (suc (size l + size r)) rest (omega arith), and-false)
-    go true true h =
-        let fits : size l ≤ rest - 1 = leb-true _ _ h in
-        let less : rest - suc (size l + size r) ≡ rest - 1 - size l - size r = omega arith in
-        rw (same-leb (suc (size l + size r)) rest (size r) (rest - 1 - size l) (λ k. omega arith) (λ k. omega arith), less)
+    go : (a b : Bool) → (if a && b then suc (suc (size l + size r)) else 0) ≡ both (if a then suc (size l) else 0) (if b then suc (size r) else 0)
+    go false b = refl
+    go true false = rw (ne-eqb (suc (size l)) 0 (suc-ne-zero (size l)))
+    go true true = rw (ne-eqb (suc (size l)) 0 (suc-ne-zero (size l)), ne-eqb (suc (size r)) 0 (suc-ne-zero (size r))) (omega arith)
 
--- a whole tree of as many rows as may be met leaves none
-abbrev pub spent : Rest → Bool
-spent (Rows more) = eqb more 0
-spent Damaged = false
-
-counted-all : (t : Tree) (n : ℕ) → spent (counted t n) ≡ (intact t && eqb (size t) n)
-unfolding counted
-counted-all t n = go (intact t) (leb (size t) n) (eqb (size t) n) refl refl
+both-few : (a b most : ℕ) → a ≤ most → b ≤ most → both a b ≤ most + most
+both-few a b most few-a few-b = go (eqb a 0) (eqb b 0)
   where
-    go : (a b d : Bool) → leb (size t) n ≡ b → eqb (size t) n ≡ d → spent (if a && b then Rows (n - size t) else Damaged) ≡ (a && d)
-    go false b d h k = refl
-    go true false false h k = refl
-    go true false true h k = absurd (let over : n < size t = leb-false _ _ h in let same : size t ≡ n = eqb-true _ _ k in omega arith)
-    go true true true h k = let same : size t ≡ n = eqb-true _ _ k in eq-eqb (n - size t) 0 (omega arith)
-    go true true false h k =
-        let fits : size t ≤ n = leb-true _ _ h in
-        let other : size t ≡ n → ⊥ = eqb-false _ _ k in
-        ne-eqb (n - size t) 0 (λ e. other (omega arith))
+    go : (p q : Bool) → (if p then 0 else if q then 0 else a + b) ≤ most + most
+    go true q = omega arith
+    go false true = omega arith
+    go false false = omega arith
 
--- ---- the part that a link leads to
+pub linked-row : (part : ℕ → Tree) (i : ℕ) → (i ≡ 0 → ⊥) → linked part i ≡ part i
+linked-row part zero e = absurd (e refl)
+linked-row part (suc i) e = refl
 
 linked-none : (part : ℕ → Tree) (i : ℕ) → i ≡ 0 → linked part i ≡ none
 linked-none part zero e = refl
 linked-none part (suc i) e = absurd (suc-ne-zero i e)
-
-linked-row : (part : ℕ → Tree) (i : ℕ) → (i ≡ 0 → ⊥) → linked part i ≡ part i
-linked-row part zero e = absurd (e refl)
-linked-row part (suc i) e = refl
-
-module _ (rows : ℕ → Row) (n : ℕ) (p : Place) where
-  pub link-none : p .row ≡ 0 → linkPart rows n p ≡ none
-  link-none e = linked-none (unfolded rows n (p .bits) (p .path) (p .low)) (p .row) e
-
-  pub link-row : (p .row ≡ 0 → ⊥) → linkPart rows n p ≡ rowPart rows n p
-  link-row e = linked-row (unfolded rows n (p .bits) (p .path) (p .low)) (p .row) e
-
--- ---- the part of the row at a place, where r is the row that stands there
-
-module _ (rows : ℕ → Row) (n : ℕ) (p : Place) (r : Row) (read : r ≡ rows (p .row)) where
-  judged-so : (b : Bool) → (ltb (p .row) n && holds p r) ≡ b → judged n (p .bits) (p .path) (p .low) (p .row) (rows (p .row)) ≡ b
-  judged-so b h = rw read at h
-
-  pub not-held : holds p r ≡ false → rowPart rows n p ≡ damaged
-  not-held h = damaged-part rows n (p .bits) (p .path) (p .low) (p .row) (judged-so false (rw (h, and-false)))
-
-  module _ (inside : p .row < n) (held : holds p r ≡ true) where
-    judged-true : judged n (p .bits) (p .path) (p .low) (p .row) (rows (p .row)) ≡ true
-    judged-true = judged-so true (rw (lt-ltb (p .row) n inside, held))
-
-    pub last-row : p .bits ≡ 0 → rowPart rows n p ≡ row (p .row) (record { key = r .entry .key }) none none
-    last-row e = rw read (last-part rows n (p .bits) (p .path) (p .low) (p .row) e judged-true)
-
-    pub inner-row : (p .bits ≡ 0 → ⊥) → rowPart rows n p ≡ row (p .row) (record { key = r .entry .key }) (sidePart rows n p r left) (sidePart rows n p r right)
-    inner-row e = rw read (inner-part rows n (p .bits) (p .path) (p .low) (p .row) e judged-true)
-
-pub outside-row : (rows : ℕ → Row) (n : ℕ) (p : Place) → n ≤ p .row → rowPart rows n p ≡ damaged
-outside-row rows n p h = damaged-part rows n (p .bits) (p .path) (p .low) (p .row) (rw (le-ltb (p .row) n h))
-
-either-spent : (b : Bool) (i : ℕ) (e : Entry) (l r : Tree) → counted (if b then row i e l r else damaged) 0 ≡ Damaged
-either-spent true i e l r = counted-spent i e l r
-either-spent false i e l r = counted-damaged 0
-
--- the part of a row is no empty link
-pub spent-row : (rows : ℕ → Row) (n m path low i : ℕ) → counted (unfolded rows n m path low i) 0 ≡ Damaged
-unfolding unfolded
-spent-row rows n zero path low i = either-spent (judged n zero path low i (rows i)) _ _ _ _
-spent-row rows n (suc m) path low i = either-spent (judged n (suc m) path low i (rows i)) _ _ _ _
-
-either-some : (b : Bool) (i : ℕ) (e : Entry) (l r : Tree) → intact (if b then row i e l r else damaged) ≡ true → 0 < size (if b then row i e l r else damaged)
-unfolding intact size
-either-some true i e l r h = omega arith
-either-some false i e l r h = absurd (let z : _≡_ {A = ℕ} 0 1 = cc in omega arith)
-
--- nor is it without rows, where it has no damage
-pub whole-some : (rows : ℕ → Row) (n m path low i : ℕ) → intact (unfolded rows n m path low i) ≡ true → 0 < size (unfolded rows n m path low i)
-unfolding unfolded
-whole-some rows n zero path low i h = either-some (judged n zero path low i (rows i)) _ _ _ _ h
-whole-some rows n (suc m) path low i h = either-some (judged n (suc m) path low i (rows i)) _ _ _ _ h
-
--- below a row there is one bit less
-pub fewer : (m k : ℕ) → 0 < m → k ≡ pred m → suc k ≡ m
-fewer zero k h e = absurd (not-suc-le-zero h)
-fewer (suc m) k h e = ap suc e
-
--- ---- the listing of a part, written word by word
 
 -- two lists are written one after the other
 sets-append : (xs ys l : List ℕ) (i : ℕ) → sets (sets l i xs) (i + length xs) ys ≡ sets l i (xs ++ ys)
 sets-append [] ys l i = rw add-zero
 sets-append (x ∷ xs) ys l i = rw (add-suc, ← suc-add) (sets-append xs ys (set l i x) (suc i))
 
--- a list that is written from the front on leaves the rest
-written-first : (xs buffer : List ℕ) (n : ℕ) → length xs ≡ n → n ≤ length buffer → sets buffer 0 xs ≡ xs ++ drop n buffer
-written-first xs buffer n e h = rw (zero-add, e) at (sets-eq xs buffer 0 (omega arith))
+-- a row is written before its parts: `next` is its place
+listed-row : (i : ℕ) (e : Entry) (l r : Tree) (buffer : List ℕ) (next : ℕ)
+    → sets (sets (set buffer next (e .key)) (next + 1) (listing l)) (next + 1 + size l) (listing r) ≡ sets buffer next (listing (row i e l r))
+unfolding listing
+listed-row i e l r buffer next =
+    let length-left : length (listing l) ≡ size l = listing-length l in
+    rw (← length-left, sets-append (listing l) (listing r) (set buffer next (e .key)) (next + 1), add-one)
 
--- a row is written before its parts: `next` is its place, `middle` that after the left part, `end` that after the right part
-module _ (i : ℕ) (e : Entry) (l r : Tree) {t : Tree} (made : t ≡ row i e l r) (buffer first second : List ℕ) (next middle end : ℕ) where
-  pub listed-parts :
-      (middle ≡ next + 1 + size l) × (first ≡ sets (set buffer next (e .key)) (next + 1) (listing l))
-      → (end ≡ middle + size r) × (second ≡ sets first middle (listing r))
-      → (end ≡ next + size t) × (second ≡ sets buffer next (listing t))
-  unfolding size listing
-  listed-parts (m, f) (n, s) =
-      let length-left : length (listing l) ≡ size l = listing-length l in
-      let all = sets-append (listing l) (listing r) (set buffer next (e .key)) (next + 1) in
-      rw made (omega arith, rw (s, m, f, ← length-left, all, add-one))
+-- ---- a place and the walk that stands there
 
--- where a part has no damage, its row has none
-module _ (rows : ℕ → Row) (n : ℕ) (p : Place) (whole : intact (rowPart rows n p) ≡ true) where
-  whole-judged : judged n (p .bits) (p .path) (p .low) (p .row) (rows (p .row)) ≡ true
-  unfolding intact
-  whole-judged = go (judged n (p .bits) (p .path) (p .low) (p .row) (rows (p .row))) refl
+module _ (rows : ℕ → Rows.Row) (n : ℕ) where
+  -- what is found at a place tells what stands there
+  abbrev pub Found : Place → Tree → End → Type 0
+  Found p part None = part ≡ none
+  Found p part (Row r) =
+      (r ≡ rows (p .row)) × (part ≡ rowTree rows n (bitsLeft (p .mask)) (p .row)) × Standing rows n (p .mask) (p .row) × (r .entry .key < 2 ^ 32)
+  Found p part Damage = part ≡ damaged
+
+  module _ (p : Place) (w : Walk) (st : Stands p w) where
+    pub place-bits : bitsLeft (p .mask) ≡ w .bits
+    place-bits = ap bitsLeft (st .mask) ∙ bits-are (w .bits) (st .few)
+
+    place-path : p .path / suc (p .mask) ≡ w .path
+    place-path = rw (st .mask, suc-ones (w .bits), st .path) (shl-shr (w .path) (w .bits))
+
+    pub place-shows : placeTree rows n p ≡ linked (unfolded rows n (w .bits) (w .path) (w .low)) (w .row)
+    place-shows = rw (place-bits, place-path, st .low, st .row)
+
+    pub row-found : (part : Tree) → part ≡ unfolded rows n (w .bits) (w .path) (w .low) (p .row) → Found p part (rowEnd rows n p)
+    row-found part is = go (ltb (p .row) n) (judges p (rows (p .row))) refl refl
+      where
+        judged-is : (b c : Bool) → ltb (p .row) n ≡ b → judges p (rows (p .row)) ≡ c → judged n (w .bits) (w .path) (w .low) (p .row) (rows (p .row)) ≡ (b && c)
+        judged-is b c used fine = rw (used, sym (judges-so p w st (rows (p .row))) ∙ fine)
+
+        -- a key with the bits of the path is no greater than the last word that has them
+        below-room : rows (p .row) .entry .key / 2 ^ w .bits ≡ w .path → rows (p .row) .entry .key < 2 ^ 32
+        below-room e =
+            let key : ℕ = rows (p .row) .entry .key in
+            let whole : w .path * 2 ^ w .bits + key % 2 ^ w .bits ≡ key = rw e at (split key (w .bits)) in
+            let least : key % 2 ^ w .bits < 2 ^ w .bits = mod-lt key (pow-pos (w .bits)) in
+            omega (arith, st .room, st .path, st .mask)
+
+        go : (b c : Bool) → ltb (p .row) n ≡ b → judges p (rows (p .row)) ≡ c → Found p part (if b && c then Row (rows (p .row)) else Damage)
+        go true true used fine =
+            let held : holds w (rows (p .row)) ≡ true = sym (judges-so p w st (rows (p .row))) ∙ fine in
+            let past = and-true (leb (w .low) (rows (p .row) .entry .key)) _ held .1 in (
+              refl,
+              rw place-bits (is ∙ is-row rows n (w .bits) (w .path) (w .low) (p .row) (judged-is true true used fine)),
+              record {
+                bits = w .bits;
+                few = st .few;
+                mask-is = st .mask;
+                used = ltb-true _ _ used;
+                ends = and-true (eqb (rows (p .row) .entry .key / 2 ^ w .bits) (w .path)) _ past .1;
+              },
+              below-room (eqb-true _ _ (and-true (eqb (rows (p .row) .entry .key / 2 ^ w .bits) (w .path)) _ past .0)),
+            )
+        go true false used fine = is ∙ is-damaged rows n (w .bits) (w .path) (w .low) (p .row) (judged-is true false used fine)
+        go false c used fine = is ∙ is-damaged rows n (w .bits) (w .path) (w .low) (p .row) (judged-is false c used fine)
+
+    pub link-found : Found p (placeTree rows n p) (linkEnd rows n p)
+    link-found = go (eqb (p .row) 0) refl
+      where
+        shows : placeTree rows n p ≡ linked (unfolded rows n (w .bits) (w .path) (w .low)) (p .row)
+        shows = rw (place-bits, place-path, st .low)
+
+        go : (b : Bool) → eqb (p .row) 0 ≡ b → Found p (placeTree rows n p) (if b then None else rowEnd rows n p)
+        go true e = shows ∙ linked-none _ (p .row) (eqb-true (p .row) 0 e)
+        go false e = row-found (placeTree rows n p) (shows ∙ linked-row _ (p .row) (eqb-false (p .row) 0 e))
+
+  -- ---- a row that is no damage, and the places below it
+
+  module _ (mask i : ℕ) (g : Standing rows n mask i) where
+    -- a row with a link has a bit left that decides
+    pub some-bits : not (eqb (rows i .left) 0 && eqb (rows i .right) 0) ≡ true → (m : ℕ) × (g .bits ≡ suc m)
+    some-bits has = go (g .bits) refl (g .ends)
+      where
+        go : (b : ℕ) → g .bits ≡ b → ends-there b (rows i) ≡ true → (m : ℕ) × (g .bits ≡ suc m)
+        go (suc m) e end = (m, e)
+        go zero e end = absurd (true-not-false (rw end at has))
+          where
+            true-not-false : false ≡ true → ⊥
+            true-not-false e = let z : _≡_ {A = ℕ} 0 1 = cc in omega arith
+
+  module _ (mask i : ℕ) (g : Standing rows n mask i) (small : rows i .entry .key < 2 ^ 32) where
+    abbrev key : ℕ
+    key = rows i .entry .key
+
+    abbrev here : Walk
+    here = startedAt n 0 (g .bits) (key / 2 ^ g .bits) 0
+
+    pub of-stands : Stands (ofPlace (rows i) mask) here
+    of-stands =
+        record {
+          row = refl;
+          mask = g .mask-is;
+          path = path-is;
+          low = refl;
+          few = g .few;
+          room = room;
+        }
+      where
+        path-is : key - bitAnd key mask ≡ key / 2 ^ g .bits * 2 ^ g .bits
+        path-is = rw (g .mask-is, and-mask key (g .bits)) (omega (arith, split key (g .bits)))
+
+        room : key - bitAnd key mask + mask < 2 ^ 32
+        room =
+            let j : ℕ = 32 - g .bits in
+            let all : j + g .bits ≡ 32 = omega (arith, g .few) in
+            let few : key / 2 ^ g .bits < 2 ^ j = shr-lt j (g .bits) (rw all small) in
+            let times : suc (key / 2 ^ g .bits) * 2 ^ g .bits ≤ 2 ^ j * 2 ^ g .bits = mul-le-mul-right (2 ^ g .bits) few in
+            let product : 2 ^ 32 ≡ 2 ^ j * 2 ^ g .bits = rw all at (pow-add 2 j (g .bits)) in
+            let more : suc (key / 2 ^ g .bits) * 2 ^ g .bits ≡ key / 2 ^ g .bits * 2 ^ g .bits + 2 ^ g .bits = suc-mul (key / 2 ^ g .bits) (2 ^ g .bits) in
+            let some : 0 < 2 ^ g .bits = pow-pos (g .bits) in
+            rw (path-is, g .mask-is) (omega arith)
+
+    module _ (m : ℕ) (bits : g .bits ≡ suc m) (s : Side) where
+      abbrev child : Place
+      child = belowPlace (ofPlace (rows i) mask) (rows i) s
+
+      abbrev child-walk : Walk
+      child-walk = passed here key (bitOf s) (link (rows i) s)
+
+      pub child-stands : Stands child child-walk
+      child-stands = below-stands (ofPlace (rows i) mask) here of-stands m bits (rows i) s here refl refl
+
+      pub child-shows : placeTree rows n child ≡ below rows n (g .bits) i s
+      child-shows = place-shows child child-walk child-stands ∙ rw bits
+
+  -- ---- no part has more rows than its bits allow
+
+  linked-few : (part : ℕ → Tree) (most : ℕ) → 0 < most → ((i : ℕ) → counted (part i) ≤ most) → (i : ℕ) → counted (linked part i) ≤ most
+  linked-few part most some few zero = rw counted-none some
+  linked-few part most some few (suc i) = few (suc i)
+
+  unfolded-few : (m path low i : ℕ) → counted (unfolded rows n m path low i) ≤ 2 ^ suc m
+  unfolding unfolded
+  unfolded-few zero path low i = go (judged n zero path low i (rows i))
     where
-      go : (b : Bool) → judged n (p .bits) (p .path) (p .low) (p .row) (rows (p .row)) ≡ b → b ≡ true
-      go true h = refl
-      go false h = rw (damaged-part rows n (p .bits) (p .path) (p .low) (p .row) h) at whole
+      go : (b : Bool) → counted (if b then row i (record { key = rows i .entry .key }) none none else damaged) ≤ 2 ^ 1
+      go true = rw (counted-row i (record { key = rows i .entry .key }) none none, counted-none) (omega arith)
+      go false = rw counted-damaged (omega arith)
+  unfolded-few (suc m) path low i = go (λ p l j. unfolded-few m p l j) (judged n (suc m) path low i (rows i))
+    where
+      part : Side → Tree
+      part s = linked (unfolded rows n m (path * 2 + bitOf s) (suc (rows i .entry .key))) (link (rows i) s)
 
-  pub whole-inside : p .row < n
-  whole-inside = ltb-true _ _ (both (ltb (p .row) n) (holds p (rows (p .row))) whole-judged .0)
+      Few : Type 0
+      Few = (p l j : ℕ) → counted (unfolded rows n m p l j) ≤ 2 ^ suc m
 
-  pub whole-held : holds p (rows (p .row)) ≡ true
-  whole-held = both (ltb (p .row) n) (holds p (rows (p .row))) whole-judged .1
+      side-few : Few → (s : Side) → counted (part s) ≤ 2 ^ suc m
+      side-few few s = linked-few _ (2 ^ suc m) (pow-pos (suc m)) (few (path * 2 + bitOf s) (suc (rows i .entry .key))) (link (rows i) s)
 
--- and its two parts have none, and room in the buffer
-pub record Sides (l r : Tree) (buffer : List ℕ) (next : ℕ) : Type 0 where
-  pub whole-left : intact l ≡ true
-  pub whole-right : intact r ≡ true
-  pub room : next + suc (size l + size r) ≤ length buffer
+      go : Few → (b : Bool) → counted (if b then row i (record { key = rows i .entry .key }) (part left) (part right) else damaged) ≤ 2 ^ suc (suc m)
+      go few true =
+          let twice : 2 ^ suc (suc m) ≡ 2 ^ suc m * 2 = pow-suc 2 (suc m) in
+          let most = both-few (counted (part left)) (counted (part right)) (2 ^ suc m) (side-few few left) (side-few few right) in
+          rw (counted-row i (record { key = rows i .entry .key }) (part left) (part right)) (omega arith)
+      go few false = rw counted-damaged (omega arith)
 
-pub sides :
-    {table : List ℕ} {n : ℕ} {t : Tree} {buffer : List ℕ} {next : ℕ} → Listable table n t buffer next
-    → (i : ℕ) (e : Entry) (l r : Tree) → t ≡ row i e l r → Sides l r buffer next
-unfolding intact size
-sides h i e l r made =
-    let parts = both (intact l) (intact r) (rw made at (h .whole)) in
-    record { whole-left = parts .0; whole-right = parts .1; room = rw made at (h .room) }
+  below-few : (m i : ℕ) (s : Side) → counted (below rows n (suc m) i s) ≤ 2 ^ suc m
+  below-few m i s = linked-few _ (2 ^ suc m) (pow-pos (suc m)) (λ j. unfolded-few m _ _ j) (link (rows i) s)
 
--- ---- the whole table
+  -- ---- how `row_counted` goes on from row to row
 
-neither : (a b : Bool) → (a || b) ≡ false → (a ≡ false) × (b ≡ false)
-neither false b h = (refl, h)
-neither true b h = absurd (let z : _≡_ {A = ℕ} 0 1 = cc in omega arith)
+  -- the empty links so far and one more, with those of a part that is still to come
+  abbrev pub joined : ℕ → ℕ → ℕ
+  joined links c = if eqb c 0 then 0 else pred links + c
 
-module _ (h : Header) (table : List ℕ) where
-  pub right-header : wrong-header h table ≡ false → (h .count ≤ capacity table) × (h .width ≤ 32)
-  unfolding wrong-header
-  right-header good =
-      let parts = neither (wrong-width (h .width)) (ltb (capacity table) (h .count)) good in
-      let widths = neither (eqb (h .width) 0) (ltb 32 (h .width)) (parts .0) in
-      (ltb-false _ _ (parts .1), ltb-false _ _ (widths .1))
+  pub record Counting (total most : ℕ) (r : Rows.Row) (mask links : ℕ) : Type 0 where
+    pub i : ℕ
+    pub at : r ≡ rows i
+    pub standing : Standing rows n mask i
+    pub sum : total ≡ joined links (counted (rowTree rows n (standing .bits) i))
+    pub some : 0 < links
+    pub room : links + 2 ^ suc (standing .bits) ≤ 2 ^ 34
+    pub falls : mask ≤ most
 
-  pub none-shown : h .count ≡ 0 → shown h table ≡ none
-  unfolding shown
-  none-shown empty = rw (eq-eqb (h .count) 0 empty)
+  pub counting-begins : (mask i : ℕ) → Standing rows n mask i → Counting (counted (rowTree rows n (bitsLeft mask) i)) mask (rows i) mask 1
+  counting-begins mask i g =
+      record {
+        i = i;
+        at = refl;
+        standing = g;
+        sum = rw bits-so (go (eqb whole 0) refl);
+        some = omega arith;
+        room = let few : 2 ^ suc (g .bits) < 2 ^ 34 = pow-lt {i = suc (g .bits)} {j = 34} (omega (arith, g .few)) in omega arith;
+        falls = le-refl mask;
+      }
+    where
+      bits-so : bitsLeft mask ≡ g .bits
+      bits-so = ap bitsLeft (g .mask-is) ∙ bits-are (g .bits) (g .few)
 
-  pub root-shown : (h .count ≡ 0 → ⊥) → shown h table ≡ rowPart (rowAt table) (h .count) (root (h .width))
-  unfolding shown
-  root-shown some = rw (ne-eqb (h .count) 0 some)
+      whole : ℕ
+      whole = counted (rowTree rows n (g .bits) i)
 
-  pub none-sound : h .count ≡ 0 → isSound h table ≡ true
-  unfolding isSound intact size
-  none-sound empty = rw (none-shown empty, empty)
+      go : (b : Bool) → eqb whole 0 ≡ b → whole ≡ (if b then 0 else 0 + whole)
+      go true e = eqb-true whole 0 e
+      go false e = omega arith
 
-  pub counted-sound : (h .count ≡ 0 → ⊥) → isSound h table ≡ spent (counted (rowPart (rowAt table) (h .count) (root (h .width))) (h .count))
-  unfolding isSound
-  counted-sound some = rw (root-shown some) (sym (counted-all (rowPart (rowAt table) (h .count) (root (h .width))) (h .count)))
+  module _ (total most : ℕ) (r : Rows.Row) (mask links : ℕ) (c : Counting total most r mask links) where
+    -- the last row has no links
+    pub counting-ends : not (eqb (r .left) 0 && eqb (r .right) 0) ≡ false → total ≡ links + 1
+    counting-ends leaf = c .sum ∙ rw (both-none) (omega (arith, c .some))
+      where
+        links-none : (eqb (rows (c .i) .left) 0 && eqb (rows (c .i) .right) 0) ≡ true
+        links-none = flip _ (rw (c .at) at leaf)
+          where
+            flip : (b : Bool) → not b ≡ false → b ≡ true
+            flip true e = refl
+            flip false e = sym e
 
-  module _ (sound : isSound h table ≡ true) where
-    sound-parts : (intact (shown h table) ≡ true) × (size (shown h table) ≡ h .count)
-    unfolding isSound
-    sound-parts = let parts = both (intact (shown h table)) (eqb (size (shown h table)) (h .count)) sound in (parts .0, eqb-true _ _ (parts .1))
+        side-none : (m : ℕ) (s : Side) → link (rows (c .i)) s ≡ 0 → below rows n m (c .i) s ≡ none
+        side-none zero s e = refl
+        side-none (suc m) s e = linked-none _ (link (rows (c .i)) s) e
 
-    module _ (buffer : List ℕ) (room : h .count ≤ length buffer) where
-      -- a sound table can be listed from its root
-      pub sound-listable : wrong-header h table ≡ false → (h .count ≡ 0 → ⊥) → Listable table (h .count) (rowPart (rowAt table) (h .count) (root (h .width))) buffer 0
-      sound-listable good some =
-          let whole = rw (root-shown some) at (sound-parts .0) in
-          let all = rw (root-shown some) at (sound-parts .1) in
-          record { in-table = right-header good .0; whole = whole; room = omega arith }
+        zeros : (eqb (rows (c .i) .left) 0 ≡ true) × (eqb (rows (c .i) .right) 0 ≡ true)
+        zeros = and-true (eqb (rows (c .i) .left) 0) _ links-none
 
-      -- its listing is `count` words, so the rest of the buffer is what stands after them
-      pub sound-listed : (h .count ≡ 0 → ⊥) → sets buffer 0 (listing (rowPart (rowAt table) (h .count) (root (h .width)))) ≡ listing (shown h table) ++ drop (h .count) buffer
-      sound-listed some = rw (← root-shown some) (written-first (listing (shown h table)) buffer (h .count) (listing-length (shown h table) ∙ sound-parts .1) room)
+        both-none : counted (rowTree rows n (c .standing .bits) (c .i)) ≡ 2
+        both-none =
+            counted-row _ _ _ _
+            ∙ rw (side-none (c .standing .bits) left (eqb-true _ _ (zeros .0)), side-none (c .standing .bits) right (eqb-true _ _ (zeros .1)), counted-none)
 
--- ---- `list`, in the order of its refusals
+    module _ (has : not (eqb (r .left) 0 && eqb (r .right) 0) ≡ true) (small : r .entry .key < 2 ^ 32) where
+      abbrev pub sidePlace : Side → Place
+      sidePlace s = belowPlace (ofPlace r mask) r s
 
-module _ (h : Header) (table buffer : List ℕ) where
-  -- what it answers, and what it leaves in the buffer
-  abbrev Lists : Reply → List ℕ → Type 0
-  Lists r after = (r ≡ listReply h table buffer) × (after ≡ listBuffer h table buffer)
+      abbrev pub side-count : Side → ℕ
+      side-count s = counted (placeTree rows n (sidePlace s))
 
-  pub lists-wrong : wrong-header h table ≡ true → Lists (refused h WrongHeader) buffer
-  unfolding listReply listBuffer
-  lists-wrong wrong = rw wrong (refl, refl)
+      pub bits : (m : ℕ) × (c .standing .bits ≡ suc m)
+      bits = some-bits mask (c .i) (c .standing) (rw (c .at) at has)
 
-  module _ (good : wrong-header h table ≡ false) where
-    pub lists-damaged : isSound h table ≡ false → Lists (refused h Damage) buffer
-    unfolding listReply listBuffer
-    lists-damaged bad = rw (good, bad) (refl, refl)
+      pub side-stands : (s : Side) → Stands (sidePlace s) (child-walk mask (c .i) (c .standing) (rw (c .at) at small) (bits .0) (bits .1) s)
+      side-stands s = rw (c .at) (child-stands mask (c .i) (c .standing) (rw (c .at) at small) (bits .0) (bits .1) s)
 
-    module _ (sound : isSound h table ≡ true) where
-      pub lists-short : length buffer < h .count → Lists (refused h ShortBuffer) buffer
-      unfolding listReply listBuffer
-      lists-short short = rw (good, sound, lt-ltb _ _ short) (refl, refl)
+      pub side-place : (s : Side) → StandsSome (sidePlace s)
+      side-place s = record { walk = _; stands = side-stands s }
 
-      module _ (room : h .count ≤ length buffer) where
-        pub lists-none : h .count ≡ 0 → Lists (answered h Done (h .count)) buffer
-        unfolding listReply listBuffer listing
-        lists-none empty = rw (good, sound, le-ltb _ _ room) (refl, rw (none-shown h table empty, empty))
+      side-shows : (s : Side) → placeTree rows n (sidePlace s) ≡ below rows n (c .standing .bits) (c .i) s
+      side-shows s = rw (c .at) (child-shows mask (c .i) (c .standing) (rw (c .at) at small) (bits .0) (bits .1) s)
 
-        pub lists-all : (h .count ≡ 0 → ⊥)
-            → Lists (answered h Done (h .count)) (sets buffer 0 (listing (rowPart (rowAt table) (h .count) (root (h .width)))))
-        unfolding listReply listBuffer
-        lists-all some = rw (good, sound, le-ltb _ _ room) (refl, sound-listed h table sound buffer room some)
+      pub mask-some : 0 < mask
+      mask-some = inner (ofPlace (rows (c .i)) mask) _ (of-stands mask (c .i) (c .standing) (rw (c .at) at small)) (bits .0) (bits .1)
+
+      pub place-room : ofPlace r mask .path + mask < 2 ^ 32
+      place-room = rw (c .at) (of-stands mask (c .i) (c .standing) (rw (c .at) at small) .room)
+
+      side-few : (s : Side) → side-count s ≤ 2 ^ c .standing .bits
+      side-few s = rw (side-shows s, bits .1) (below-few (bits .0) (c .i) s)
+
+      twice : 2 ^ suc (c .standing .bits) ≡ 2 ^ c .standing .bits * 2
+      twice = pow-suc 2 (c .standing .bits)
+
+      -- the sum does not overflow
+      pub links-fit : links + side-count left ≤ 2 ^ 34
+      links-fit = omega (arith, side-few left, twice, c .room)
+
+      sum-so : total ≡ joined links (both (side-count left) (side-count right))
+      sum-so = c .sum ∙ rw (counted-row (c .i) (record { key = rows (c .i) .entry .key }) (below rows n (c .standing .bits) (c .i) left) (below rows n (c .standing .bits) (c .i) right), side-shows left, side-shows right)
+
+      pub left-damage : side-count left ≡ 0 → total ≡ 0
+      left-damage e = sum-so ∙ rw e
+
+      module _ (whole : side-count left ≡ 0 → ⊥) where
+        pub right-none : placeTree rows n (sidePlace right) ≡ none → total ≡ links + side-count left
+        right-none e = sum-so ∙ rw (e, counted-none, ne-eqb (side-count left) 0 whole, ne-eqb (side-count left + 1) 0 (λ z. suc-ne-zero _ (sym (add-one _) ∙ z))) (omega (arith, c .some))
+
+        pub right-damage : placeTree rows n (sidePlace right) ≡ damaged → total ≡ 0
+        right-damage e = sum-so ∙ rw (e, counted-damaged, ne-eqb (side-count left) 0 whole)
+
+        pub right-row : (next : Rows.Row) → Found (sidePlace right) (placeTree rows n (sidePlace right)) (Row next)
+            → Counting total most next (mask / 2) (links + side-count left)
+        right-row next (is, shows, stands, small) =
+            record {
+              i = sidePlace right .row;
+              at = is;
+              standing = stands;
+              sum = sum-so ∙ rw (ne-eqb (side-count left) 0 whole) (again (eqb there 0) refl);
+              some = omega (arith, c .some);
+              room = let one-less : stands .bits ≡ bits .0 = bits-less in
+                  let halves : 2 ^ suc (stands .bits) ≡ 2 ^ c .standing .bits = ap (λ (b : ℕ). 2 ^ suc b) one-less ∙ sym (ap (λ (b : ℕ). 2 ^ b) (bits .1)) in
+                  omega (arith, c .room, side-few left, twice);
+              falls = omega (arith, c .falls);
+            }
+          where
+            bits-so : bitsLeft (sidePlace right .mask) ≡ stands .bits
+            bits-so = ap bitsLeft (stands .mask-is) ∙ bits-are (stands .bits) (stands .few)
+
+            bits-less : stands .bits ≡ bits .0
+            bits-less = sym bits-so ∙ place-bits (sidePlace right) _ (side-stands right) ∙ ap pred (bits .1)
+
+            there : ℕ
+            there = counted (rowTree rows n (stands .bits) (sidePlace right .row))
+
+            right-is : side-count right ≡ there
+            right-is = ap counted shows ∙ rw bits-so
+
+            again : (b : Bool) → eqb there 0 ≡ b
+                → joined links (if eqb (side-count right) 0 then 0 else side-count left + side-count right) ≡ (if b then 0 else pred (links + side-count left) + there)
+            again true e = rw (right-is, e)
+            again false e =
+                rw (right-is, e, ne-eqb (side-count left + there) 0 (λ z. whole (omega arith)))
+                (omega (arith, c .some))
+
+  -- ---- the parts of a row without damage
+
+  -- what a link shows, if that has no damage: a row that is none
+  module _ (m path low : ℕ) (few : m ≤ 32) where
+    whole-row : (i : ℕ) → intact (unfolded rows n m path low i) ≡ true
+        → (unfolded rows n m path low i ≡ rowTree rows n m i) × Standing rows n (2 ^ m - 1) i
+    unfolding intact
+    whole-row i whole = go (judged n m path low i (rows i)) refl
+      where
+        go : (b : Bool) → judged n m path low i (rows i) ≡ b → (unfolded rows n m path low i ≡ rowTree rows n m i) × Standing rows n (2 ^ m - 1) i
+        go true h =
+            let used = and-true (ltb i n) _ h in
+            let past = and-true (leb low (rows i .entry .key)) _ (used .1) in
+            let ends = and-true (eqb (rows i .entry .key / 2 ^ m) path) _ (past .1) in
+            (is-row rows n m path low i h, record { bits = m; few = few; mask-is = refl; used = ltb-true _ _ (used .0); ends = ends .1 })
+        go false h = absurd (false-not-true (rw (is-damaged rows n m path low i h) at whole))
+          where
+            false-not-true : false ≡ true → ⊥
+            false-not-true e = let z : _≡_ {A = ℕ} 0 1 = cc in omega arith
+
+    pub whole-link : (i : ℕ) → intact (linked (unfolded rows n m path low) i) ≡ true
+        → (linked (unfolded rows n m path low) i ≡ linkTree rows n m i) × StandingLink rows n (2 ^ m - 1) i
+    whole-link zero whole = (refl, record { bits = m; few = few; mask-is = refl; row = λ some. absurd (some refl) })
+    whole-link (suc i) whole =
+        let r = whole-row (suc i) whole in
+        (r .0, record { bits = m; few = few; mask-is = refl; row = λ some. r .1 })
+
+  -- ---- how `row_listed` goes on from row to row
+
+  pub record Writing (total : Tree) (first : List ℕ) (start most : ℕ) (buffer : List ℕ) (r : Rows.Row) (mask next : ℕ) : Type 0 where
+    pub i : ℕ
+    pub at : r ≡ rows i
+    pub standing : Standing rows n mask i
+    pub whole : intact (rowTree rows n (standing .bits) i) ≡ true
+    -- what is still to be written makes the whole
+    pub to-come : sets buffer next (listing (rowTree rows n (standing .bits) i)) ≡ sets first start (listing total)
+    pub end : next + size (rowTree rows n (standing .bits) i) ≡ start + size total
+    pub room : start + size total ≤ length buffer
+    pub falls : mask ≤ most
+
+  pub writing-begins : (mask i : ℕ) (buffer : List ℕ) (start : ℕ) → Standing rows n mask i → Listable (rowTree rows n (bitsLeft mask) i) buffer start
+      → Writing (rowTree rows n (bitsLeft mask) i) buffer start mask buffer (rows i) mask start
+  writing-begins mask i buffer start g l =
+      let bits-so : g .bits ≡ bitsLeft mask = sym (ap bitsLeft (g .mask-is) ∙ bits-are (g .bits) (g .few)) in
+      record {
+        i = i;
+        at = refl;
+        standing = record { bits = bitsLeft mask; few = subst (λ (b : ℕ). b ≤ 32) bits-so (g .few); mask-is = g .mask-is ∙ ap (λ (b : ℕ). 2 ^ b - 1) bits-so; used = g .used; ends = subst (λ (b : ℕ). ends-there b (rows i) ≡ true) bits-so (g .ends) };
+        whole = l .whole;
+        to-come = refl;
+        end = refl;
+        room = l .room;
+        falls = le-refl mask;
+      }
+
+  module _ (total : Tree) (first : List ℕ) (start most : ℕ) (buffer : List ℕ) (r : Rows.Row) (mask next : ℕ)
+      (c : Writing total first start most buffer r mask next) where
+    abbrev here-row : Rows.Row
+    here-row = rows (c .i)
+
+    abbrev side-part : Side → Tree
+    side-part s = below rows n (c .standing .bits) (c .i) s
+
+    same-key : r .entry .key ≡ here-row .entry .key
+    same-key = ap (λ (x : Rows.Row). x .entry .key) (c .at)
+
+    pub write-room : next < length buffer
+    unfolding size
+    write-room = omega (arith, c .end, c .room)
+
+    -- the last row has no links
+    module _ (leaf : not (eqb (r .left) 0 && eqb (r .right) 0) ≡ false) where
+      side-none : (m : ℕ) (s : Side) → link here-row s ≡ 0 → below rows n m (c .i) s ≡ none
+      side-none zero s e = refl
+      side-none (suc m) s e = linked-none _ (link here-row s) e
+
+      zeros : (eqb (here-row .left) 0 ≡ true) × (eqb (here-row .right) 0 ≡ true)
+      zeros = and-true (eqb (here-row .left) 0) _ (flip _ (rw (c .at) at leaf))
+        where
+          flip : (b : Bool) → not b ≡ false → b ≡ true
+          flip true e = refl
+          flip false e = sym e
+
+      left-none : side-part left ≡ none
+      left-none = side-none (c .standing .bits) left (eqb-true _ _ (zeros .0))
+
+      right-empty : side-part right ≡ none
+      right-empty = side-none (c .standing .bits) right (eqb-true _ _ (zeros .1))
+
+      pub writing-ends : (next + 1 ≡ start + size total) × (set buffer next (r .entry .key) ≡ sets first start (listing total))
+      unfolding size listing
+      writing-ends = (
+        let all : next + suc (size (side-part left) + size (side-part right)) ≡ start + size total = c .end in
+            let few : next + 1 ≡ next + suc (size (side-part left) + size (side-part right)) = rw (left-none, right-empty) (omega arith) in
+            few ∙ all,
+        let so : sets buffer next (here-row .entry .key ∷ (listing (side-part left) ++ listing (side-part right))) ≡ sets first start (listing total) = c .to-come in
+            rw same-key (rw (left-none, right-empty) at so),
+      )
+
+    module _ (has : not (eqb (r .left) 0 && eqb (r .right) 0) ≡ true) where
+      deeper : (m : ℕ) × (c .standing .bits ≡ suc m)
+      deeper = some-bits mask (c .i) (c .standing) (rw (c .at) at has)
+
+      abbrev m : ℕ
+      m = deeper .0
+
+      half : mask / 2 ≡ 2 ^ m - 1
+      half = ap (λ (x : ℕ). x / 2) (c .standing .mask-is ∙ ap (λ (b : ℕ). 2 ^ b - 1) (deeper .1)) ∙ half-mask m
+
+      pub half-less : mask / 2 < mask
+      half-less =
+          let full : mask ≡ 2 ^ suc m - 1 = c .standing .mask-is ∙ ap (λ (b : ℕ). 2 ^ b - 1) (deeper .1) in
+          let twice : 2 ^ suc m ≡ 2 ^ m * 2 = pow-suc 2 m in
+          let some : 0 < 2 ^ m = pow-pos m in
+          omega (arith, half)
+
+      few-bits : m ≤ 32
+      few-bits = omega (arith, c .standing .few, deeper .1)
+
+      half-bits : bitsLeft (mask / 2) ≡ m
+      half-bits = ap bitsLeft half ∙ bits-are m few-bits
+
+      sides-whole : (intact (side-part left) ≡ true) × (intact (side-part right) ≡ true)
+      unfolding intact
+      sides-whole = and-true (intact (side-part left)) _ (c .whole)
+
+      side-whole : (s : Side) → intact (side-part s) ≡ true
+      side-whole left = sides-whole .0
+      side-whole right = sides-whole .1
+
+      side-so : (s : Side) → (side-part s ≡ linkTree rows n (bitsLeft (mask / 2)) (link r s)) × StandingLink rows n (mask / 2) (link r s)
+      side-so s =
+          let path : ℕ = here-row .entry .key / 2 ^ suc m * 2 + bitOf s in
+          let deep : side-part s ≡ linked (unfolded rows n m path (suc (here-row .entry .key))) (link here-row s) = ap (λ (b : ℕ). below rows n b (c .i) s) (deeper .1) in
+          let shown = whole-link m path (suc (here-row .entry .key)) few-bits (link here-row s) (rw (← deep) (side-whole s)) in
+          rw (c .at, half-bits, half) (deep ∙ shown .0, shown .1)
+
+      abbrev after-left : Tree
+      after-left = linkTree rows n (bitsLeft (mask / 2)) (r .left)
+
+      abbrev written : List ℕ
+      written = set buffer next (r .entry .key)
+
+      sizes : next + suc (size (side-part left) + size (side-part right)) ≡ start + size total
+      unfolding size
+      sizes = c .end
+
+      pub left-standing : StandingLink rows n (mask / 2) (r .left)
+      left-standing = side-so left .1
+
+      pub left-listable : Listable after-left written (next + 1)
+      left-listable =
+          record {
+            whole = rw (← side-so left .0) (side-whole left);
+            room =
+                let same : length written ≡ length buffer = length-set buffer next (r .entry .key) in
+                let left-size : size after-left ≡ size (side-part left) = ap size (sym (side-so left .0)) in
+                omega (arith, sizes, c .room);
+          }
+
+      -- past the left part, which ends at `middle` and leaves `second`
+      module _ (middle : ℕ) (second : List ℕ) (ends : middle ≡ next + 1 + size after-left) (leaves : second ≡ sets written (next + 1) (listing after-left)) where
+        middle-so : middle ≡ next + 1 + size (side-part left)
+        middle-so = ends ∙ ap (λ (t : Tree). next + 1 + size t) (sym (side-so left .0))
+
+        all-written : sets second middle (listing (side-part right)) ≡ sets first start (listing total)
+        all-written =
+            let second-so : second ≡ sets (set buffer next (here-row .entry .key)) (next + 1) (listing (side-part left))
+            = leaves ∙ ap (λ (t : Tree). sets written (next + 1) (listing t)) (sym (side-so left .0)) ∙ ap (λ (k : ℕ). sets (set buffer next k) (next + 1) (listing (side-part left))) same-key in
+            rw (second-so, middle-so) (listed-row (c .i) (record { key = here-row .entry .key }) (side-part left) (side-part right) buffer next) ∙ c .to-come
+
+        pub right-empty-ends : r .right ≡ 0 → (middle ≡ start + size total) × (second ≡ sets first start (listing total))
+        unfolding size listing
+        right-empty-ends e =
+            let gone : side-part right ≡ none = side-so right .0 ∙ linked-none _ (r .right) e in
+            let so : sets second middle (listing (side-part right)) ≡ sets first start (listing total) = all-written in (
+              let none-size : size (side-part right) ≡ 0 = ap size gone in
+                  omega (arith, middle-so, sizes),
+              rw gone at so,
+            )
+
+        module _ (some : r .right ≡ 0 → ⊥) where
+          right-stands : Standing rows n (mask / 2) (r .right)
+          right-stands = side-so right .1 .row some
+
+          right-bits : right-stands .bits ≡ bitsLeft (mask / 2)
+          right-bits = sym (ap bitsLeft (right-stands .mask-is) ∙ bits-are (right-stands .bits) (right-stands .few))
+
+          right-tree : side-part right ≡ rowTree rows n (right-stands .bits) (r .right)
+          right-tree = side-so right .0 ∙ linked-row _ (r .right) some ∙ ap (λ (b : ℕ). rowTree rows n b (r .right)) (sym right-bits)
+
+          pub right-used : r .right < n
+          right-used = right-stands .used
+
+          pub right-goes-on : length second ≡ length buffer → Writing total first start most second (rows (r .right)) (mask / 2) middle
+          right-goes-on same =
+              record {
+                i = r .right;
+                at = refl;
+                standing = right-stands;
+                whole = rw (← right-tree) (side-whole right);
+                to-come = rw (← right-tree) all-written;
+                end = let same-size : size (rowTree rows n (right-stands .bits) (r .right)) ≡ size (side-part right) = ap size (sym right-tree) in omega (arith, middle-so, sizes);
+                room = rw same (c .room);
+                falls = omega (arith, c .falls, half-less);
+              }

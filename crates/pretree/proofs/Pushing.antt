@@ -1,6 +1,6 @@
--- The push: that the rows which it passes rise, that the code's numbers give the way's entries, and that a row taken leaves the rows
--- ahead as they were.
-use Prim.Native.Nat.{ℕ, zero, suc, _+_, _≤_, _<_, zero-le}
+-- The push: that the rows which it passes rise, that the code's numbers give the way's entries, that it ends at no row, and that a row
+-- taken leaves the rows ahead as they were.
+use Prim.Native.Nat.{ℕ, zero, suc, _+_, _*_, _/_, _^_, _≤_, _<_, zero-le}
 use mathlib.Core.Path.{_≡_, refl, sym, ap, _∙_}
 use mathlib.Core.Bool.{Bool, true, false}
 use mathlib.Core.List.{List}
@@ -8,30 +8,23 @@ use native.Mathlib.Nat.{add-zero, add-suc, le-trans, lt-of-lt-of-le, le-of-lt}
 use native.Mathlib.Omega.{arith}
 use lib.Dec.{ltb, leb}
 use lib.ListN.{length}
-use borrow.Author.Tests.{lt-ltb, ltb-true, leb-true}
-use Rattle.ordered.specs.Word.{Side, left, right, side}
+use borrow.Author.Tests.{ltb-true, leb-true}
+use Rattle.ordered.specs.Word.{Side, left, right, bitOf, side}
 use Rattle.ordered.specs.Tree.{Tree, none, part}
-use Rattle.ordered.specs.Way.{Way, way, ending, passing, pushing}
+use Rattle.ordered.specs.Way.{Way, way, ending, passing, pushing, endRows}
 use Rattle.ordered.specs.Change.{pushed, left-over}
 use Rattle.ordered.proofs.Ways.{and-true}
+use Rattle.ordered.proofs.Bits.{next-bit, whole-path}
 use Rattle.pretree.specs.declared.Entry.{Entry}
 use Rattle.pretree.specs.declared.Row.{Row}
 use Rattle.pretree.specs.Table.{capacity, rowAt, link, withKey}
 use Rattle.pretree.specs.Unfold.{judged, linked, unfolded}
-use Rattle.pretree.specs.Walk.{below, turnOf, seeking, seekTurn}
+use Rattle.pretree.specs.Walk.{below}
 use Rattle.pretree.specs.Add.{taking}
 use Rattle.pretree.specs.Push.{onward, takes-from, left-from, Rising}
-use Rattle.pretree.proofs.Unfolding.{is-damaged, is-row}
+use Rattle.pretree.proofs.Unfolding.{path-in-key, is-damaged, is-row}
 use Rattle.pretree.proofs.Walking.{at-none}
-use Rattle.pretree.proofs.Seeking.{seek-says}
 use Rattle.pretree.proofs.Writing.{key-length, other-row}
-
--- the turn of a push at a row is that of its key, sought past itself
-pub push-says : (key bits m : ℕ) (l r : Tree) → bits ≡ suc m → pushing m (record { key = key }) l r ≡ turnOf (seekTurn (key + 1) key key bits)
-unfolding pushing seeking
-push-says key bits m l r e =
-    let own : seeking (key + 1) key m (record { key = key }) l r ≡ pushing m (record { key = key }) l r = rw (lt-ltb key (key + 1) (omega arith)) in
-    sym own ∙ seek-says (key + 1) key bits m (record { key = key }) l r e
 
 -- what rises below a number and from another on does so below a greater one and from a smaller one on
 pub rises-within : (rows : ℕ → Row) (top top′ end n i low : ℕ) → top ≤ top′ → Rising rows top end n i low → Rising rows top′ end n i 0
@@ -99,6 +92,47 @@ module _ (rows : ℕ → Row) (n : ℕ) where
           let risen = and-true (leb low key) _ (used .1) in
           rw (is-row rows n (suc m) path low i h)
           (one-pushed m i low _ _ _ (ltb-true i n (used .0)) (leb-true low key (risen .0)) (by-side rest (side m key)))
+
+  -- with no bit left the path is the key above; a key there has to be greater, so a row there is damage
+  bottom : (above path i : ℕ) → path ≡ above / 2 ^ 0 → endRows (unfolded rows n 0 path (suc above) i) ≡ 0
+  bottom above path i e = go (judged n 0 path (suc above) i (rows i)) refl
+    where
+      go : (b : Bool) → judged n 0 path (suc above) i (rows i) ≡ b → endRows (unfolded rows n 0 path (suc above) i) ≡ 0
+      go false h = rw (is-damaged rows n 0 path (suc above) i h)
+      go true h =
+          let key : ℕ = rows i .entry .key in
+          let risen : suc above ≤ key = leb-true (suc above) key (and-true (leb (suc above) key) _ (and-true (ltb i n) _ h .1) .0) in
+          let same : key ≡ above = sym (whole-path key) ∙ path-in-key n 0 path (suc above) i (rows i) h ∙ e ∙ whole-path above in
+          absurd (omega arith)
+
+  -- a row is passed, and then the push ends at none where it goes on
+  past-row : (m path low i : ℕ)
+      → ((path j : ℕ) → path ≡ rows i .entry .key / 2 ^ m → endRows (way pushing m (unfolded rows n m path (suc (rows i .entry .key)) j) .end) ≡ 0)
+      → endRows (way pushing (suc m) (unfolded rows n (suc m) path low i) .end) ≡ 0
+  unfolding way pushing
+  past-row m path low i rest = by-row (judged n (suc m) path low i (rows i)) refl
+    where
+      key : ℕ
+      key = rows i .entry .key
+
+      by-link : (path j : ℕ) → path ≡ key / 2 ^ m → endRows (way pushing m (linked (unfolded rows n m path (suc key)) j) .end) ≡ 0
+      by-link path zero e = rw (at-none pushing m)
+      by-link path (suc j) e = rest path (suc j) e
+
+      by-side : (s : Side) → key / 2 ^ m ≡ key / 2 ^ suc m * 2 + bitOf s
+          → endRows (way pushing m (part s (below rows n (suc m) i left) (below rows n (suc m) i right)) .end) ≡ 0
+      by-side left e = by-link _ (rows i .left) (sym e)
+      by-side right e = by-link _ (rows i .right) (sym e)
+
+      by-row : (b : Bool) → judged n (suc m) path low i (rows i) ≡ b → endRows (way pushing (suc m) (unfolded rows n (suc m) path low i) .end) ≡ 0
+      by-row false h = rw (is-damaged rows n (suc m) path low i h)
+      by-row true h = rw (is-row rows n (suc m) path low i h) (by-side (side m key) (next-bit m key))
+
+  -- so a push from a row with bits left ends at an empty link or at damage, and never at a row
+  pub no-end-row : (m path low i : ℕ) → endRows (way pushing (suc m) (unfolded rows n (suc m) path low i) .end) ≡ 0
+  unfolding way
+  no-end-row zero path low i = past-row zero path low i (λ path j e. bottom (rows i .entry .key) path j e)
+  no-end-row (suc m) path low i = past-row (suc m) path low i (λ path j e. no-end-row m path (suc (rows i .entry .key)) j)
 
 -- a push that is being written: n rows from row i on are still to take their entries, the first one e, in the table as it is now
 pub record Pushes (table₀ : List ℕ) (end n₀ i₀ : ℕ) (e₀ : Entry) (table : List ℕ) (n i : ℕ) (e : Entry) : Type 0 where

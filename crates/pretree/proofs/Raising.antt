@@ -10,15 +10,15 @@ use lib.ListN.{length}
 use borrow.Author.Tests.{ltb-true, leb-true, eqb-false}
 use Rattle.ordered.specs.Such.{if_then_else_}
 use Rattle.ordered.specs.Word.{Side, left, right, bitOf}
-use Rattle.ordered.specs.Tree.{Tree, row, damaged, Entry, part, exists}
+use Rattle.ordered.specs.Tree.{Tree, row, damaged, Entry, part}
 use Rattle.ordered.specs.Way.{Way, Step, way, down, isDamaged, to}
 use Rattle.ordered.specs.Change.{raised, entryAt}
 use Rattle.ordered.proofs.Ways.{along, At-end, Onward, and-true}
 use Rattle.pretree.specs.declared.Row.{Row}
-use Rattle.pretree.specs.declared.walk.Turn.the-variants.{Stop, Left, Right}
+use Rattle.ordered.specs.Way.{stop, to}
 use Rattle.pretree.specs.Table.{capacity, rowAt, link, withKey}
 use Rattle.pretree.specs.Unfold.{judged, linked, unfolded}
-use Rattle.pretree.specs.Walk.{turnOf, below, downTurn}
+use Rattle.pretree.specs.Walk.{below, downTurn}
 use Rattle.pretree.specs.Add.{taking}
 use Rattle.pretree.specs.Erased.{beneath, raising, Rises}
 use Rattle.pretree.proofs.Unfolding.{is-damaged, is-row}
@@ -30,11 +30,11 @@ record Follows (r : Row) (s : Side) (below : ℕ) : Type 0 where
   same : link r s ≡ below
   some : link r s ≡ 0 → ⊥
 
-follows : (r : Row) (s : Side) → turnOf (downTurn left r) ≡ to s → Follows r s (beneath r)
+follows : (r : Row) (s : Side) → (downTurn left r) ≡ to s → Follows r s (beneath r)
 follows r s says = go (eqb (r .left) 0) (eqb (r .right) 0) refl refl says
   where
     go : (a b : Bool) → eqb (r .left) 0 ≡ a → eqb (r .right) 0 ≡ b
-        → turnOf (if not a then Left else if not b then Right else Stop) ≡ to s → Follows r s (if not a then r .left else r .right)
+        → (if not a then to left else if not b then to right else stop) ≡ to s → Follows r s (if not a then r .left else r .right)
     go false b ha hb says =
         let e : left ≡ s = cc in
         subst (λ (t : Side). Follows r t (r .left)) e (record { same = refl; some = eqb-false (r .left) 0 ha })
@@ -61,10 +61,8 @@ module _ (rows : ℕ → Row) (n room : ℕ) (fits : n ≤ room) where
   abbrev key : ℕ → ℕ
   key i = rows i .entry .key
 
-  -- what a stretch from row i shows, if it meets no damage: it ends at a row, and its rows are in the table, with keys that rise
+  -- what a stretch from row i shows, if it meets no damage: what its rows take; and they are in the table, with keys that rise
   pub record Stretch (low i : ℕ) (w : Way) : Type 0 where
-    pub ends : exists (w .end) ≡ true
-    pub used : i < room
     pub rising : low ≤ key i
     pub top : topmost (w .passed) (entryAt (w .end)) ≡ record { key = key i }
     pub takes : raised (w .passed) (entryAt (w .end)) ≡ raising rows (length (w .passed)) i
@@ -98,7 +96,7 @@ module _ (rows : ℕ → Row) (n room : ℕ) (fits : n ≤ room) where
   unfolding raised raising Rises
   at-end m t stops path low i e ok =
       let f : Fine m path low i t = fine m path low i t e ok in
-      record { ends = rw (f .is); used = f .in-table; rising = f .above-low; top = rw (f .is); takes = refl; rises = f .in-table }
+      record { rising = f .above-low; top = rw (f .is); takes = refl; rises = f .in-table }
 
   onward : Onward (down left) P
   unfolding raising Rises
@@ -106,15 +104,13 @@ module _ (rows : ℕ → Row) (n room : ℕ) (fits : n ≤ room) where
       let f : Fine (suc m) path low i (row i′ e l r) = fine (suc m) path low i (row i′ e l r) shape refl in
       let same : i′ ≡ i = cc in
       let entry : e ≡ record { key = key i } = cc in
-      let turns : turnOf (downTurn left (rows i)) ≡ to s = sym (down-says rows n m i (record { key = key i }) left) ∙ (cc) in
+      let turns : (downTurn left (rows i)) ≡ to s = sym (down-says rows n m i (record { key = key i }) left) ∙ (cc) in
       let g : Follows (rows i) s (beneath (rows i)) = follows (rows i) s turns in
       let part-is : part s l r ≡ below rows n (suc m) i s = by-side s (cc) (cc) in
       let linked-is = linked-some (unfolded rows n m (key i / 2 ^ suc m * 2 + bitOf s) (suc (key i))) (link (rows i) s) (g .some) in
       let k : Stretch (suc (key i)) (beneath (rows i)) (way (down left) m (part s l r))
       = rest (key i / 2 ^ suc m * 2 + bitOf s) (suc (key i)) (beneath (rows i)) (part-is ∙ linked-is ∙ rw (g .same)) ok in
       record {
-        ends = k .ends;
-        used = f .in-table;
         rising = f .above-low;
         top = entry;
         takes = raised-more _ _ _ ∙ rw (same, k .top, k .takes);

@@ -16,13 +16,12 @@ use Rattle.ordered.proofs.Parts.{All, none-all, one-all, last-such-append}
 use Rattle.ordered.proofs.Ways.{and-true}
 use Rattle.pretree.specs.declared.Header.{Header}
 use Rattle.pretree.specs.declared.Row.{Row}
-use Rattle.pretree.specs.declared.walk.Stage.{Stage}
-use Rattle.pretree.specs.declared.walk.Stage.the-variants.{On, AtNone, AtRow, AtDamage}
-use Rattle.pretree.specs.declared.walk.Turn as Turns
-use Rattle.pretree.specs.declared.walk.Walk.{Walk}
+use Rattle.pretree.specs.Walk.{Stage}
+use Rattle.pretree.specs.Walk.{On, AtNone, AtRow, AtDamage}
+use Rattle.pretree.specs.Walk.{Walk}
 use Rattle.pretree.specs.Table.{rowAt}
 use Rattle.pretree.specs.Unfold.{judged, linked, unfolded, shown}
-use Rattle.pretree.specs.Walk.{isOn, endRead, ended, met, turnOf, treeAt, to-come, below, remembered, Goes, Placed, Walked}
+use Rattle.pretree.specs.Walk.{isOn, endRead, ended, met, treeAt, to-come, below, remembered, Goes, Placed, Walked}
 use Rattle.pretree.specs.Resume.{isDamage, again, resumed, Going}
 use Rattle.pretree.proofs.Unfolding.{is-damaged, is-row}
 use Rattle.pretree.proofs.Walking.{at-none, at-damage, is-on, AfterRow, meets}
@@ -32,10 +31,10 @@ module _ (rows : ℕ → Row) (f : Rule) (width count : ℕ) (whole : Way) (w : 
   pub in-use-on : w .row < count
   in-use-on = rw (← k .same-count) (subst (Placed rows w) (is-on (w .stage) on) (k .placed))
 
-  pub keeps-on : (t : Turns.Turn)
+  pub keeps-on : (t : Turn)
       → ((m : ℕ) → w .bits ≡ suc m
       → f m (record { key = rows (w .row) .entry .key }) (below rows (w .count) (suc m) (w .row) left) (below rows (w .count) (suc m) (w .row) right)
-      ≡ turnOf t)
+      ≡ t)
       → Going rows f width count whole (met w (rows (w .row)) t)
   keeps-on t says =
       let stage : w .stage ≡ On = is-on (w .stage) on in

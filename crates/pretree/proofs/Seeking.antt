@@ -9,21 +9,16 @@ use Rattle.ordered.specs.Such.{if_then_else_}
 use Rattle.ordered.specs.Word.{Side, left, right, side}
 use Rattle.ordered.specs.Tree.{Tree, Entry}
 use Rattle.ordered.specs.Way.{following, passing-equal, to, stop}
-use Rattle.pretree.specs.declared.walk.Turn.the-variants.{Stop}
-use Rattle.pretree.specs.Walk.{turnOf, toward, seeking, seekTurn}
+use Rattle.pretree.specs.Walk.{seeking, seekTurn}
 
-pub turn-toward : (s : Side) → turnOf (toward s) ≡ to s
-turn-toward left = refl
-turn-toward right = refl
-
-pub seek-says : (limit k bits m : ℕ) (e : Entry) (l r : Tree) → bits ≡ suc m → seeking limit k m e l r ≡ turnOf (seekTurn limit k (e .key) bits)
+pub seek-says : (limit k bits m : ℕ) (e : Entry) (l r : Tree) → bits ≡ suc m → seeking limit k m e l r ≡ (seekTurn limit k (e .key) bits)
 unfolding seeking
 seek-says limit k bits m e l r bits-are = rw (bits-are, ne-eqb (suc m) 0 (suc-ne-zero m)) (go (leb limit (e .key)) refl)
   where
     go : (b : Bool) → leb limit (e .key) ≡ b
-        → (if ltb (e .key) limit then to (side m k) else stop) ≡ turnOf (if b then Stop else toward (side m k))
+        → (if ltb (e .key) limit then to (side m k) else stop) ≡ (if b then stop else to (side m k))
     go true h = rw (le-ltb (e .key) limit (leb-true limit (e .key) h))
-    go false h = rw (lt-ltb (e .key) limit (leb-false limit (e .key) h)) (sym (turn-toward (side m k)))
+    go false h = rw (lt-ltb (e .key) limit (leb-false limit (e .key) h))
 
 pub following-is : (k : ℕ) → following k ≡ seeking k k
 unfolding following seeking

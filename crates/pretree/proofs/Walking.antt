@@ -2,30 +2,27 @@
 use Prim.Native.Nat.{ℕ, zero, suc, pred, _+_, _*_, _-_, _/_, _%_, _^_, _≤_, _<_}
 use mathlib.Core.Path.{_≡_, refl, sym, ap, _∙_, subst}
 use mathlib.Core.Bool.{Bool, true, false, not, _&&_, true≢false}
-use mathlib.Core.List.{List, [], _∷_}
+use mathlib.Core.List.{List}
 use native.Mathlib.Nat.{suc-ne-zero, le-trans, le-refl, lt-irrefl, pred-le, add-zero, sub-self, pos-of-ne-zero}
-use native.Mathlib.Numerals.{add-one}
 use native.Mathlib.Omega.{arith}
-use lib.Dec.{ltb, leb, eqb}
-use lib.ListN.{length}
+use lib.Dec.{ltb, eqb}
 use borrow.Author.Tests.{lt-ltb, le-ltb, ne-eqb, ltb-true, eqb-true, eqb-false}
-use Rattle.ordered.specs.Such.{if_then_else_, Perhaps, no-such, such, first-of, last-such, anything}
+use Rattle.ordered.specs.Such.{if_then_else_, no-such, such, first-of, last-such, anything}
 use Rattle.ordered.specs.Word.{Side, left, right, sideOf, bitOf, isSide}
-use Rattle.ordered.specs.Tree.{Tree, none, row, damaged, Entry, part, exists}
-use Rattle.ordered.specs.Way.{Way, Step, Rule, way, ending, passing, turning, stop, to}
+use Rattle.ordered.specs.Tree.{Tree, none, row, damaged, Entry, part}
+use Rattle.ordered.specs.Way.{Way, Step, Rule, way, ending, passing, stop, to}
 use Rattle.ordered.specs.Reading.{right-left-aside}
 use Rattle.ordered.proofs.Parts.{first-of-assoc, first-of-no-such}
 use Rattle.pretree.specs.declared.Header.{Header}
 use Rattle.pretree.specs.declared.Row.{Row}
-use Rattle.pretree.specs.declared.walk.Stage.{Stage}
-use Rattle.pretree.specs.declared.walk.Stage.the-variants.{On, AtNone, AtRow, AtDamage}
-use Rattle.pretree.specs.declared.walk.Turn.{Turn}
-use Rattle.pretree.specs.declared.walk.Turn.the-variants.{Stop, Left, Right}
-use Rattle.pretree.specs.declared.walk.Walk.{Walk}
-use Rattle.pretree.specs.Table.{capacity, rowAt, link}
+use Rattle.pretree.specs.Walk.{Stage}
+use Rattle.pretree.specs.Walk.{On, AtNone, AtRow, AtDamage}
+use Rattle.ordered.specs.Way.{Turn}
+use Rattle.ordered.specs.Way.{stop, to}
+use Rattle.pretree.specs.Walk.{Walk}
+use Rattle.pretree.specs.Table.{rowAt, link}
 use Rattle.pretree.specs.Unfold.{judged, linked, unfolded, shown}
-use Rattle.pretree.specs.Walk.{isOn, started, startedAt, holds, ended, remembering, passed, turned, stageAt, met, turnOf, toward, treeAt, to-come, toCome, below, stepAt, remembered, Goes, Placed, Memory, Walking, Begun, standing, partStart}
-use Rattle.pretree.proofs.Tests.{goes-right}
+use Rattle.pretree.specs.Walk.{isOn, started, holds, ended, remembering, passed, turned, stageAt, met, treeAt, to-come, toCome, below, stepAt, remembered, Goes, Placed, Memory, Walking}
 use Rattle.pretree.proofs.Unfolding.{is-damaged, is-row, path-in-key, there}
 
 -- where a way ends at once
@@ -138,7 +135,7 @@ module _ (rows : ℕ → Row) (width : ℕ) (whole : Way) (w : Walk) where
 
   turned-goes : (m : ℕ) (s : Side) (coming : Way) → w .bits ≡ suc m → suc m ≤ width
       → Goes rows width whole w (passing (stepAt rows (w .count) m (w .row) s) coming)
-      → Goes rows width whole (turned w (rows (w .row)) (toward s)) coming
+      → Goes rows width whole (turned w (rows (w .row)) (to s)) coming
   unfolding turned
   turned-goes m right coming e fits g =
       remembers m right coming e fits g w _ _ e refl refl (aside-with m right coming e fits g false (here-aside m right coming e fits g))
@@ -162,7 +159,7 @@ module _ (rows : ℕ → Row) (f : Rule) (m key bit l : ℕ) where
   comes v AtDamage e = rw e
 
 turned-comes : (rows : ℕ → Row) (f : Rule) (w : Walk) (m : ℕ) (s : Side) (r : Row) → w .bits ≡ suc m
-    → toCome rows f (turned w r (toward s))
+    → toCome rows f (turned w r (to s))
     ≡ led rows f (w .count) m (w .path * 2 + bitOf s) (suc (r .entry .key)) (link r s) (stageAt (w .count) (link r s))
 unfolding turned
 turned-comes rows f w m right r e = comes rows f m (r .entry .key) 1 (r .right) w (stageAt (w .count) (r .right)) e
@@ -234,8 +231,8 @@ module _ (rows : ℕ → Row) (f : Rule) (width : ℕ) (whole : Way) (w : Walk) 
         same-count = same-count;
       }
 
-  turned-after : (s : Side) → (w .bits ≡ 0 → ⊥) → Goes rows width whole (turned w here-row (toward s)) (toCome rows f (turned w here-row (toward s)))
-      → After (turned w here-row (toward s))
+  turned-after : (s : Side) → (w .bits ≡ 0 → ⊥) → Goes rows width whole (turned w here-row (to s)) (toCome rows f (turned w here-row (to s)))
+      → After (turned w here-row (to s))
   unfolding turned
   turned-after right some h = passed-after w 1 (here-row .right) refl refl refl (mem .aside-used) h
   turned-after left some h = go (eqb (here-row .right) 0) h
@@ -249,9 +246,9 @@ module _ (rows : ℕ → Row) (f : Rule) (width : ℕ) (whole : Way) (w : Walk) 
 
   -- what the rule says at the row, with m bits left below it
   abbrev Says : ℕ → Turn → Type 0
-  Says m t = f m (record { key = key }) (below rows (w .count) (suc m) (w .row) left) (below rows (w .count) (suc m) (w .row) right) ≡ turnOf t
+  Says m t = f m (record { key = key }) (below rows (w .count) (suc m) (w .row) left) (below rows (w .count) (suc m) (w .row) right) ≡ t
 
-  passes-by : (m : ℕ) (s : Side) → w .bits ≡ suc m → holds w here-row ≡ true → Says m (toward s) → After (turned w here-row (toward s))
+  passes-by : (m : ℕ) (s : Side) → w .bits ≡ suc m → holds w here-row ≡ true → Says m (to s) → After (turned w here-row (to s))
   passes-by m s e h says =
       let path-is : key / 2 ^ suc m ≡ w .path = rw (← e) (path-in-key (w .count) (w .bits) (w .path) (w .low) (w .row) here-row (judged-is true h)) in
       let on : way f (w .bits) (treeAt rows w) ≡ passing (stepAt rows (w .count) m (w .row) s) (onward rows f (w .count) m (w .row) s)
@@ -262,16 +259,16 @@ module _ (rows : ℕ → Row) (f : Rule) (width : ℕ) (whole : Way) (w : Walk) 
       ∙ sym (turned-comes rows f w m s here-row e))
       (turned-goes rows width whole w m s _ e (rw e at fits) (subst (λ (c : Way). Goes rows width whole w c) on g)))
     where
-      turn-says : (s : Side) → Says m (toward s)
+      turn-says : (s : Side) → Says m (to s)
           → f m (record { key = key }) (below rows (w .count) (suc m) (w .row) left) (below rows (w .count) (suc m) (w .row) right) ≡ to s
       turn-says left h = h
       turn-says right h = h
 
   by-turn : (m : ℕ) (t : Turn) → w .bits ≡ suc m → holds w here-row ≡ true → Says m t → After (turned w here-row t)
   unfolding turned
-  by-turn m Stop e h says = ends AtRow (rw (shows h, e) (stops-at f m (w .row) _ _ _ says)) (used, h, refl)
-  by-turn m Left e h says = passes-by m left e h says
-  by-turn m Right e h says = passes-by m right e h says
+  by-turn m stop e h says = ends AtRow (rw (shows h, e) (stops-at f m (w .row) _ _ _ says)) (used, h, refl)
+  by-turn m (to left) e h says = passes-by m left e h says
+  by-turn m (to right) e h says = passes-by m right e h says
 
   -- the row that the walk wants takes it on along the whole way
   pub meets : (t : Turn) → ((m : ℕ) → w .bits ≡ suc m → Says m t) → After (met w here-row t)
@@ -302,7 +299,7 @@ module _ (rows : ℕ → Row) (f : Rule) (width count : ℕ) (tree : Tree) (w : 
   -- a walk that is on its way is so after the row that it wants, if it makes the turn that its rule says
   pub keeps : (t : Turn)
       → ((m : ℕ) → w .bits ≡ suc m
-      → f m (record { key = rows (w .row) .entry .key }) (below rows count (suc m) (w .row) left) (below rows count (suc m) (w .row) right) ≡ turnOf t)
+      → f m (record { key = rows (w .row) .entry .key }) (below rows count (suc m) (w .row) left) (below rows count (suc m) (w .row) right) ≡ t)
       → Walking rows f width count tree (met w (rows (w .row)) t)
   keeps t says =
       let stage : w .stage ≡ On = is-on (w .stage) on in
@@ -370,9 +367,9 @@ falls w r t on = rw on (by-row (holds w r))
     by-link v bit l e some = fewer (v .bits) (isOn (stageAt (v .count) l)) e some
 
     by-turn-falls : (t : Turn) → (w .bits ≡ 0 → ⊥) → still (turned w r t) < w .bits + 1
-    by-turn-falls Stop some = omega arith
-    by-turn-falls Right some = by-link w 1 (r .right) refl some
-    by-turn-falls Left some = go (eqb (r .right) 0)
+    by-turn-falls stop some = omega arith
+    by-turn-falls (to right) some = by-link w 1 (r .right) refl some
+    by-turn-falls (to left) some = go (eqb (r .right) 0)
       where
         go : (b : Bool) → still (passed (if b then w else remembering w) (r .entry .key) 0 (r .left)) < w .bits + 1
         go true = by-link w 0 (r .left) refl some
@@ -407,9 +404,9 @@ unmoved-by w r t = by-row (holds w r)
         }
 
     by-turn-unmoved : (t : Turn) → (w .bits ≡ 0 → ⊥) → Unmoved w (turned w r t)
-    by-turn-unmoved Stop some = record { no-more = le-refl (w .bits); same = λ h. (refl, refl) }
-    by-turn-unmoved Right some = by-link w 1 (r .right) refl some
-    by-turn-unmoved Left some = go (eqb (r .right) 0)
+    by-turn-unmoved stop some = record { no-more = le-refl (w .bits); same = λ h. (refl, refl) }
+    by-turn-unmoved (to right) some = by-link w 1 (r .right) refl some
+    by-turn-unmoved (to left) some = go (eqb (r .right) 0)
       where
         go : (b : Bool) → Unmoved w (passed (if b then w else remembering w) (r .entry .key) 0 (r .left))
         go true = by-link w 0 (r .left) refl some
@@ -434,104 +431,3 @@ unmoved s w r t within so-far e =
     let now = u .same (e ∙ sym none-passed) in
     let before = so-far none-passed in
     (now .0 ∙ before .0, now .1 ∙ before .1)
-
--- a walk that may begin in a table is on its way from the tree at which it stands
-pub begins-there : (table : List ℕ) (f : Rule) (w : Walk) → Begun table w
-    → Walking (rowAt table) f (w .bits) (w .count) (standing (rowAt table) w (w .stage)) w
-begins-there table f w b = begins (rowAt table) f (standing (rowAt table) w (w .stage)) w (b .fresh) (all (w .stage) (b .not-ended)) (b .placed)
-  where
-    all : (stage : Stage) → (stage ≡ AtRow → ⊥)
-        → to-come (rowAt table) f w stage ≡ way f (w .bits) (standing (rowAt table) w stage)
-    all On going = refl
-    all AtNone going = sym (at-none f (w .bits))
-    all AtRow going = absurd (going refl)
-    all AtDamage going = sym (at-damage f (w .bits))
-
--- a walk that stops at the row it meets has ended
-pub stop-ends : (w : Walk) (r : Row) → isOn (met w r Stop .stage) ≡ false
-unfolding met turned
-stop-ends w r = go (holds w r) (eqb (w .bits) 0)
-  where
-    go : (a b : Bool)
-        → isOn ((if not a then ended w AtDamage (r .entry .key) else if b then ended w AtRow (r .entry .key) else ended w AtRow (r .entry .key)) .stage) ≡ false
-    go false b = refl
-    go true true = refl
-    go true false = refl
-
--- the root is a place where a walk may begin
-pub root-begun : (h : Header) (table : List ℕ) → h .width ≤ 32 → h .count ≤ capacity table → Begun table (started h)
-root-begun h table few room =
-    record {
-      few-bits = few;
-      has-room = room;
-      placed = begins-root h table (λ m e l r. stop) .placed;
-      fresh = refl;
-      not-ended = root-open (eqb (h .count) 0);
-    }
-  where
-    root-open : (b : Bool) → (if b then AtNone else On) ≡ AtRow → ⊥
-    root-open true e = let z : _≡_ {A = ℕ} 0 1 = cc in omega arith
-    root-open false e = let z : _≡_ {A = ℕ} 0 1 = cc in omega arith
-
--- what stands there is what the table shows
-pub root-standing : (h : Header) (table : List ℕ) → standing (rowAt table) (started h) (started h .stage) ≡ shown h table
-unfolding shown
-root-standing h table = go (eqb (h .count) 0)
-  where
-    go : (b : Bool) → standing (rowAt table) (started h) (if b then AtNone else On) ≡ (if b then none else unfolded (rowAt table) (h .count) (h .width) 0 0 0)
-    go true = refl
-    go false = refl
-
--- what stands at a link is what it shows
-standing-at : (rows : ℕ → Row) (count m path low l : ℕ)
-    → standing rows (startedAt count l m path low) (stageAt count l) ≡ linked (unfolded rows count m path low) l
-standing-at rows count m path low zero = refl
-standing-at rows count m path low (suc l) =
-    ap (standing rows (startedAt count (suc l) m path low)) linked-stage ∙ go (ltb (suc l) count) refl
-  where
-    linked-stage : stageAt count (suc l) ≡ (if ltb (suc l) count then On else AtDamage)
-    linked-stage = rw (ne-eqb (suc l) 0 (suc-ne-zero l))
-
-    go : (b : Bool) → ltb (suc l) count ≡ b
-        → standing rows (startedAt count (suc l) m path low) (if b then On else AtDamage) ≡ unfolded rows count m path low (suc l)
-    go true h = refl
-    go false h = sym (is-damaged rows count m path low (suc l) (rw h))
-
--- the start of a part by the code's numbers
-module _ (count : ℕ) (r : Row) (side m : ℕ) where
-  pub starts-left : side ≡ 0 → startedAt count (r .left) m (r .entry .key / 2 ^ (m + 1) * 2) (r .entry .key + 1) ≡ partStart count r (sideOf side) m
-  starts-left e = rw (e, add-one m, add-one (r .entry .key), add-zero)
-
-  pub starts-right : (side ≡ 0 → ⊥) → startedAt count (r .right) m (r .entry .key / 2 ^ (m + 1) * 2 + 1) (r .entry .key + 1) ≡ partStart count r (sideOf side) m
-  starts-right e = rw (goes-right side e, add-one m, add-one (r .entry .key))
-
--- so is the part of a row on a side, and what stands there is what the row's link shows
-module _ (table : List ℕ) (count m i : ℕ) (s : Side) where
-  abbrev start : Walk
-  start = partStart count (rowAt table i) s m
-
-  pub part-begun : m ≤ 32 → count ≤ capacity table → Begun table start
-  part-begun few room =
-      record {
-        few-bits = few;
-        has-room = room;
-        placed = placed (eqb l 0) (ltb l count) refl;
-        fresh = refl;
-        not-ended = part-open (eqb l 0) (ltb l count);
-      }
-    where
-      l : ℕ
-      l = link (rowAt table i) s
-
-      placed : (b c : Bool) → ltb (link (rowAt table i) s) count ≡ c → Placed (rowAt table) start (if b then AtNone else if c then On else AtDamage)
-      placed true c h = tt
-      placed false true h = ltb-true _ count h
-      placed false false h = tt
-
-      part-open : (b c : Bool) → (if b then AtNone else if c then On else AtDamage) ≡ AtRow → ⊥
-      part-open true c e = let z : _≡_ {A = ℕ} 0 1 = cc in omega arith
-      part-open false true e = let z : _≡_ {A = ℕ} 0 1 = cc in omega arith
-      part-open false false e = let z : _≡_ {A = ℕ} 0 1 = cc in omega arith
-
-  pub part-standing : standing (rowAt table) start (start .stage) ≡ below (rowAt table) count (suc m) i s
-  part-standing = standing-at (rowAt table) count m _ _ (link (rowAt table i) s)

@@ -1,4 +1,4 @@
--- What a write leaves as it was: the capacity, and the rows that it does not write.
+-- Where a row's words stand; and what a write leaves as it was: the capacity, and the rows that it does not write.
 use Prim.Native.Nat.{ℕ, zero, suc, _+_, _*_, _<_}
 use mathlib.Core.Path.{_≡_, refl}
 use mathlib.Core.List.{List}
@@ -20,6 +20,15 @@ unfolding rowAt
 link-read table i zero h = rw (add-zero (3 * i + 1))
 link-read table i (suc zero) h = let two : 3 * i + 1 + 1 ≡ 3 * i + 2 = omega arith in rw two
 link-read table i (suc (suc b)) h = omega arith
+
+-- the three words of a row below the capacity are in the table, and their numbers are small
+pub record RowWords (table : List ℕ) (i : ℕ) : Type 0 where
+  pub within : 3 * i + 2 < length table
+  pub few : i < 65535
+
+pub row-words : (table : List ℕ) (i : ℕ) → i < capacity table → RowWords table i
+unfolding capacity
+row-words table i h = record { within = omega arith; few = omega arith }
 
 -- tables of one length have one capacity
 pub same-capacity : (a b : List ℕ) → length a ≡ length b → capacity a ≡ capacity b

@@ -1,8 +1,8 @@
 -- What the small functions of `src/erase.rt` do, and what `del` has judged before it writes.
 -- Document 01: "All of it is judged before anything is written."
-use Prim.Native.Nat.{ℕ, zero, suc, pred, _%_, _<_}
+use Prim.Native.Nat.{ℕ, zero, suc, pred, _/_, _%_, _^_, _<_}
 use mathlib.Core.Path.{_≡_}
-use mathlib.Core.Bool.{true, false, not, _&&_, _||_}
+use mathlib.Core.Bool.{Bool, true, false, not, _&&_, _||_}
 use mathlib.Core.List.{List, [], _∷_}
 use lib.Dec.{ltb, eqb}
 use Rattle.ordered.specs.Such.{if_then_else_, Perhaps}
@@ -11,42 +11,40 @@ use Rattle.ordered.specs.Way.{Step, rows, broken}
 use Rattle.ordered.specs.Change.{Take, Erasing, above-end}
 use Rattle.pretree.specs.declared.Header.{Header}
 use Rattle.pretree.specs.declared.Row.{Row}
-use Rattle.pretree.specs.declared.walk.Stage.the-variants.{On}
-use Rattle.pretree.specs.declared.walk.Walk.{Walk}
+use Rattle.pretree.specs.declared.leg.Place.{Place}
 use Rattle.pretree.specs.declared.erase.Hook.{Hook}
 use Rattle.pretree.specs.declared.erase.Hole.{Hole}
 use Rattle.pretree.specs.declared.erase.Move.{Move}
 use Rattle.pretree.specs.Table.{capacity, rowAt, hooked, withRow, cleared}
+use Rattle.pretree.specs.Unfold.{shown}
+use Rattle.pretree.specs.Walk.{Walk, seeking, Walked}
+use Rattle.pretree.specs.Resume.{endsAt}
+use Rattle.pretree.specs.Leg.{Stands}
 use Rattle.pretree.specs.Add.{taking, hooking}
 use Rattle.pretree.specs.Del.{secondWay, astray}
 
--- the walk wants the row at which it ended, with nothing remembered aside
-abbrev pub restarted : Walk → Walk
-restarted w =
-    record {
-      count = w .count;
-      row = w .row;
-      bits = w .bits;
-      path = w .path;
-      low = w .low;
-      key = w .key;
-      above = w .above;
-      aside = w .aside;
-      beneath = w .beneath;
-      any = false;
-      stage = On;
-    }
+-- the key in row i
+abbrev pub keyIn : List ℕ → ℕ → ℕ
+keyIn table i = rowAt table i .entry .key
 
--- where the end of a walk from a root with so many bits left is linked
-abbrev pub hookOf : Walk → ℕ → Hook
-hookOf w width = record { linked = ltb (w .bits) width; above = w .above; side = w .path % 2 }
+-- the way of k ended at k's row: a walk that has gone it stands at that place, below that row
+pub record RowOfKey (h : Header) (table : List ℕ) (k : ℕ) (at : Place) (row-above : ℕ) : Type 0 where
+  pub walk : Walk
+  pub walked : Walked (rowAt table) (seeking k k) (h .width) (h .count) (shown h table) walk
+  pub there : endsAt k (walk .key) (walk .stage) ≡ true
+  pub stands : Stands at walk
+  pub above : row-above ≡ walk .above
+
+-- where a place with `bits` left is linked, if the root has `width`: below the row above, on the side that the last bit of the path says
+abbrev pub hookOf : Place → ℕ → ℕ → ℕ → Hook
+hookOf at bits width above = record { linked = ltb bits width; above = above; side = at .path / 2 ^ bits % 2 }
 
 abbrev pub hookedAt : Hook → ℕ → List ℕ → List ℕ
 hookedAt k i table = hooked (k .linked) (k .above) (sideOf (k .side)) i table
 
 -- the hook is that of a step
-abbrev pub Hooks : Perhaps Step → Hook → Type 0
-Hooks p k = (i : ℕ) (table : List ℕ) → hooking p i table ≡ hookedAt k i table
+abbrev pub SameHook : Perhaps Step → Hook → Type 0
+SameHook p k = (i : ℕ) (table : List ℕ) → hooking p i table ≡ hookedAt k i table
 
 -- and its row is one of the first n
 abbrev pub Hangs : ℕ → Hook → Type 0
@@ -56,7 +54,7 @@ Hangs n k = (k .linked ≡ true → k .above < n) × (k .side < 2)
 abbrev pub beneath : Row → ℕ
 beneath r = if not (eqb (r .left) 0) then r .left else r .right
 
--- "each row taking the key below": so many rows from row i down
+-- "each row taking the key below": s rows from row i down
 unfoldable pub raising : (ℕ → Row) → ℕ → ℕ → List Take
 raising rows zero i = []
 raising rows (suc s) i =
@@ -70,20 +68,25 @@ Rises rows n (suc s) i =
     (i < n) × (rows i .entry .key < rows (beneath (rows i)) .entry .key) × Rises rows n s (beneath (rows i))
 
 -- the stretch of an erase, as it was judged
-pub record Hollow (e : Erasing) (table : List ℕ) (hole : Hole) : Type 0 where
+pub record JudgedStretch (e : Erasing) (table : List ℕ) (hole : Hole) : Type 0 where
   pub whole : broken (e .rows-read) ≡ false
   pub present : e .present ≡ true
   pub rows : rows (e .rows-read) ≡ hole .rows
   pub takes : e .takes ≡ raising (rowAt table) (hole .steps) (hole .from)
   pub row : e .hole ≡ hole .row
-  pub hook : Hooks (e .hook) (hole .hook)
+  pub hook : SameHook (e .hook) (hole .hook)
 
 -- and the move of the last row into the hole
-pub record Moves (h : Header) (table : List ℕ) (hole : ℕ) (m : Move) : Type 0 where
+pub record JudgedMove (h : Header) (table : List ℕ) (hole : ℕ) (m : Move) : Type 0 where
   pub needed : m .needed ≡ not (eqb hole (pred (h .count)))
   pub astray : m .astray ≡ (m .needed && (broken (secondWay h table) || astray h table (secondWay h table)))
-  pub rows : m .rows ≡ (if m .needed then rows (secondWay h table) else 0)
-  pub hook : m .needed ≡ true → Hooks (above-end (secondWay h table)) (m .hook)
+  pub rows : m .astray ≡ false → m .rows ≡ (if m .needed then rows (secondWay h table) else 0)
+  pub hook : m .astray ≡ false → m .needed ≡ true → SameHook (above-end (secondWay h table)) (m .hook)
+
+-- a move that sets no link
+abbrev pub noLink : Bool → Bool → Move
+noLink needed astray =
+    record { needed = needed; astray = astray; hook = record { linked = false; above = 0; side = 0 }; rows = 0 }
 
 -- all that will be written is in the table
 pub record Within (table : List ℕ) (hole : Hole) : Type 0 where

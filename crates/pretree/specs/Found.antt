@@ -1,5 +1,5 @@
--- What the reading calls answer where their walks ended: the contracts of the small functions that turn a walk's end into a reply.
-use Prim.Native.Nat.{ℕ, suc, _+_, _%_, _≤_, _<_}
+-- What the reading calls answer where their ways ended: the contracts of the small functions that turn an end into a reply.
+use Prim.Native.Nat.{ℕ, suc, _+_, _%_}
 use mathlib.Core.Path.{_≡_}
 use mathlib.Core.Bool.{Bool, true, false, not, _&&_, _||_}
 use mathlib.Core.List.{List}
@@ -12,11 +12,13 @@ use Rattle.pretree.specs.declared.Header.{Header}
 use Rattle.pretree.specs.declared.Answer.the-variants.{Done, Word, WrongHeader, WordTooWide, Damage, NoSuchWord}
 use Rattle.pretree.specs.declared.Reply.{Reply}
 use Rattle.pretree.specs.declared.Row.{Row}
-use Rattle.pretree.specs.declared.walk.Stage.{Stage}
-use Rattle.pretree.specs.declared.walk.Stage.the-variants.{On, AtNone, AtRow, AtDamage}
+use Rattle.pretree.specs.declared.leg.End.{End}
+use Rattle.pretree.specs.declared.leg.End as Ends
+use Rattle.pretree.specs.declared.leg.Place.{Place}
+use Rattle.pretree.specs.Walk.{Walk, Stage, On, AtNone, AtRow, AtDamage, treeAt, below}
+use Rattle.pretree.specs.Leg.{Stands}
 use Rattle.pretree.specs.Reply.{wrong-header, too-wide, refused, answered}
 use Rattle.pretree.specs.Find.{saying}
-use Rattle.pretree.specs.Walk.{below}
 
 -- a call on the word k is refused for its header or for the word, and by the first of the two numbers that it is refused for
 abbrev pub refuses : Header → List ℕ → ℕ → Bool
@@ -25,30 +27,33 @@ refuses h table k = wrong-header h table || too-wide h k
 abbrev pub refusal : Header → List ℕ → Reply
 refusal h table = if wrong-header h table then refused h WrongHeader else refused h WordTooWide
 
--- `has` of k, at a row with that key, after so many rows
-abbrev pub found-by : Header → ℕ → ℕ → ℕ → Stage → Reply
-found-by h k key n On = answered h NoSuchWord n
-found-by h k key n AtNone = answered h NoSuchWord n
-found-by h k key n AtRow = if eqb k key then answered h Done n else answered h NoSuchWord n
-found-by h k key n AtDamage = refused h Damage
+-- `has` of k, by the end of its way: n rows were passed, and a row at the end counts as one more
+abbrev pub foundBy : Header → ℕ → ℕ → End → Reply
+foundBy h k n Ends.the-variants.None = answered h NoSuchWord n
+foundBy h k n (Ends.the-variants.Row r) = if eqb k (r .entry .key) then answered h Done (n + 1) else answered h NoSuchWord (n + 1)
+foundBy h k n Ends.the-variants.Damage = refused h Damage
 
--- the word at which a walk ended, after so many rows
-abbrev pub word-by : Header → ℕ → ℕ → Stage → Reply
-word-by h key n On = answered h NoSuchWord n
-word-by h key n AtNone = answered h NoSuchWord n
-word-by h key n AtRow = answered h (Word key) n
-word-by h key n AtDamage = refused h Damage
-
--- what is known where a second way begins, after so many rows
-pub record Asked (h : Header) (table : List ℕ) (n : ℕ) : Type 0 where
-  pub fine : wrong-header h table ≡ false
-  pub few : n ≤ 33
+-- the word at which a leg ended: n rows were read before that one
+abbrev pub wordBy : Header → ℕ → End → Reply
+wordBy h n Ends.the-variants.None = answered h NoSuchWord n
+wordBy h n (Ends.the-variants.Row r) = answered h (Word (r .entry .key)) (n + 1)
+wordBy h n Ends.the-variants.Damage = refused h Damage
 
 -- a second way, whose end is the answer, after n rows
 abbrev pub then-by : Header → ℕ → Way → Reply
 then-by h n w =
     if broken w then refused h Damage
     else answered h (saying Word (keyAt (w .end))) (n + rows w)
+
+-- the leg down to the greatest word may begin at the place p: a walk is there
+pub record GreatestFrom (h : Header) (p : Place) : Type 0 where
+  pub walk : Walk
+  pub stands : Stands p walk
+  pub same-count : walk .count ≡ h .count
+
+-- the reply of that leg, as a second way, after n rows
+abbrev pub greatestBy : Header → (ℕ → Row) → ℕ → Walk → Reply
+greatestBy h rows n w = then-by h n (way (down right) (w .bits) (treeAt rows w))
 
 -- the right child of the row i that the walk remembered, with m bits left below it
 abbrev pub aside-from : Header → (ℕ → Row) → ℕ → Bool → ℕ → ℕ → Reply

@@ -1,18 +1,12 @@
 -- What `gap` answers from the replies of `prev` and `next`: the contracts of its small functions.
 use Prim.Native.Nat.{ℕ, _-_, _+_, min}
-use mathlib.Core.List.{List}
-use lib.Dec.{eqb}
-use Rattle.ordered.specs.Such.{if_then_else_}
 use Rattle.pretree.specs.declared.Header.{Header}
 use Rattle.pretree.specs.declared.Answer.{Answer}
 use Rattle.pretree.specs.declared.Answer.the-variants.{Done, Word, Distance, WrongWidth, WrongHeader, WordTooWide, Damage, Full, ShortBuffer, AlreadyThere, NoSuchWord}
 use Rattle.pretree.specs.declared.Reply.{Reply}
 use Rattle.pretree.specs.declared.gap.Neighbour.{Neighbour}
 use Rattle.pretree.specs.declared.gap.Neighbour.the-variants.{At, Nowhere, Unknown}
-use Rattle.pretree.specs.declared.walk.Stage.{Stage}
-use Rattle.pretree.specs.declared.walk.Stage.the-variants.{On, AtNone, AtRow, AtDamage}
 use Rattle.pretree.specs.Reply.{refused, answered}
-use Rattle.pretree.specs.Find.{prevReply, nextReply}
 
 -- a word, that there is none, or damage
 abbrev pub neighbour : Answer → Neighbour
@@ -47,12 +41,3 @@ from-both h k n Unknown upper = refused h Damage
 
 unfoldable pub between : Header → ℕ → Reply → Reply → Reply
 between h k lower upper = from-both h k (lower .rows + upper .rows) (neighbour (lower .answer)) (neighbour (upper .answer))
-
--- `gap` of k, at a row with that key, after n rows
-abbrev pub gap-from : Header → List ℕ → ℕ → ℕ → ℕ → Stage → Reply
-gap-from h table k key n On = between h k (prevReply h table k) (nextReply h table k)
-gap-from h table k key n AtNone = between h k (prevReply h table k) (nextReply h table k)
-gap-from h table k key n AtRow =
-    if eqb k key then answered h (Distance 0) n
-    else between h k (prevReply h table k) (nextReply h table k)
-gap-from h table k key n AtDamage = refused h Damage

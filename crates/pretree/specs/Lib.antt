@@ -11,10 +11,13 @@ pub mod Whole
 pub mod Call
 pub mod Part
 pub mod Walk
-pub mod Skim
 pub mod Resume
+pub mod Leg
+pub mod Seek
 pub mod Push
 pub mod Found
+pub mod Next
 pub mod Gap
+pub mod Prev
 pub mod Erased
 pub mod Starred

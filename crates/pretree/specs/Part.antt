@@ -1,57 +1,60 @@
--- The parts of rows, as `src/whole.rt` recurses on them: where a part stands, what counting its rows leaves, and when it can be listed.
-use Prim.Native.Nat.{ℕ, suc, pred, _+_, _*_, _-_, _/_, _^_, _≤_, _<_}
+-- The parts of rows, as `src/whole.rt` goes through them: what a row and a link show, what counting their rows gives, and when they can be listed.
+use Prim.Native.Nat.{ℕ, zero, suc, _+_, _-_, _/_, _^_, _≤_, _<_}
 use mathlib.Core.Path.{_≡_}
-use mathlib.Core.Bool.{Bool, true, _&&_}
+use mathlib.Core.Bool.{Bool, true}
 use mathlib.Core.List.{List}
-use lib.Dec.{leb, eqb}
+use lib.Bits.{bitAnd}
 use lib.ListN.{length}
 use Rattle.ordered.specs.Such.{if_then_else_}
-use Rattle.ordered.specs.Word.{Side, bitOf}
-use Rattle.ordered.specs.Tree.{Tree, intact, size}
+use Rattle.ordered.specs.Word.{left, right}
+use Rattle.ordered.specs.Tree.{Tree, none, row, intact, size}
 use Rattle.pretree.specs.declared.Row.{Row}
-use Rattle.pretree.specs.declared.whole.Place.{Place}
-use Rattle.pretree.specs.declared.whole.Rest.{Rest}
-use Rattle.pretree.specs.declared.whole.Rest.the-variants.{Rows, Damaged}
-use Rattle.pretree.specs.Table.{capacity, link}
+use Rattle.pretree.specs.declared.leg.Place.{Place}
 use Rattle.pretree.specs.Unfold.{ends-there, linked, unfolded}
+use Rattle.pretree.specs.Walk.{Walk, below}
+use Rattle.pretree.specs.Leg.{Stands}
+use Rattle.pretree.specs.Seek.{bitsLeft}
 
-abbrev pub root : ℕ → Place
-root width = record { row = 0; bits = width; path = 0; low = 0 }
+-- where a row that is no damage stands, as its key shows; its number and the least key there are not needed below it
+abbrev pub ofPlace : Row → ℕ → Place
+ofPlace r mask = record { row = 0; mask = mask; path = r .entry .key - bitAnd (r .entry .key) mask; low = 0 }
 
--- where the link on side s of the row r leads
-abbrev pub below : Place → Row → Side → Place
-below p r s = record { row = link r s; bits = pred (p .bits); path = p .path * 2 + bitOf s; low = suc (r .entry .key) }
+-- what row i shows, if it is no damage and m bits are left there
+abbrev pub rowTree : (ℕ → Row) → ℕ → ℕ → ℕ → Tree
+rowTree rows n m i = row i (record { key = rows i .entry .key }) (below rows n m i left) (below rows n m i right)
 
--- a bit is left that decides, the path is one of 32 bits, and the side is 0 or 1
-pub record Turns (p : Place) (side : ℕ) : Type 0 where
-  pub inner : 0 < p .bits
-  pub short : p .path < 2 ^ 32
-  pub either : side < 2
+-- what a link shows that leads to such a row
+abbrev pub linkTree : (ℕ → Row) → ℕ → ℕ → ℕ → Tree
+linkTree rows n m i = linked (rowTree rows n m) i
 
--- `judged` but for the row's number
-abbrev pub holds : Place → Row → Bool
-holds p r = leb (p .low) (r .entry .key) && (eqb (r .entry .key / 2 ^ p .bits) (p .path) && ends-there (p .bits) r)
+-- what the link at a place shows
+abbrev pub placeTree : (ℕ → Row) → ℕ → Place → Tree
+placeTree rows n p = linked (unfolded rows n (bitsLeft (p .mask)) (p .path / suc (p .mask)) (p .low)) (p .row)
 
--- the part of the row at a place
-abbrev pub rowPart : (ℕ → Row) → ℕ → Place → Tree
-rowPart rows n p = unfolded rows n (p .bits) (p .path) (p .low) (p .row)
+-- one more than the rows of a part, if it has no damage: as many as it has empty links
+unfoldable pub counted : Tree → ℕ
+counted t = if intact t then suc (size t) else 0
 
--- the part to which a link there leads
-abbrev pub linkPart : (ℕ → Row) → ℕ → Place → Tree
-linkPart rows n p = linked (unfolded rows n (p .bits) (p .path) (p .low)) (p .row)
+-- a place that is one
+pub record StandsSome (p : Place) : Type 0 where
+  pub walk : Walk
+  pub stands : Stands p walk
 
--- the part on side s of the row r
-abbrev pub sidePart : (ℕ → Row) → ℕ → Place → Row → Side → Tree
-sidePart rows n p r s = linkPart rows n (below p r s)
+-- row i is one of the first n, and no row at depth W with a link
+pub record Standing (rows : ℕ → Row) (n mask i : ℕ) : Type 0 where
+  pub bits : ℕ
+  pub few : bits ≤ 32
+  pub mask-is : mask ≡ 2 ^ bits - 1
+  pub used : i < n
+  pub ends : ends-there bits (rows i) ≡ true
 
--- where `rest` rows may still be met: how many after the rows of a part, if it has no damage and no more rows than that
-unfoldable pub counted : Tree → ℕ → Rest
-counted t rest =
-    if intact t && leb (size t) rest then Rows (rest - size t)
-    else Damaged
+pub record StandingLink (rows : ℕ → Row) (n mask i : ℕ) : Type 0 where
+  pub bits : ℕ
+  pub few : bits ≤ 32
+  pub mask-is : mask ≡ 2 ^ bits - 1
+  pub row : (i ≡ 0 → ⊥) → Standing rows n mask i
 
--- a part of a table that has room in the buffer from `next` on
-pub record Listable (table : List ℕ) (count : ℕ) (t : Tree) (buffer : List ℕ) (next : ℕ) : Type 0 where
-  pub in-table : count ≤ capacity table
+-- a part without damage that has room in the buffer from `next` on
+pub record Listable (t : Tree) (buffer : List ℕ) (next : ℕ) : Type 0 where
   pub whole : intact t ≡ true
   pub room : next + size t ≤ length buffer

@@ -5,10 +5,10 @@ use mathlib.Core.Bool.{Bool, true, false}
 use lib.Dec.{eqb}
 use Rattle.ordered.specs.Way.{Way, Rule}
 use Rattle.pretree.specs.declared.Row.{Row}
-use Rattle.pretree.specs.declared.walk.Stage.{Stage}
-use Rattle.pretree.specs.declared.walk.Stage.the-variants.{On, AtNone, AtRow, AtDamage}
-use Rattle.pretree.specs.declared.walk.Walk.{Walk}
-use Rattle.pretree.specs.Walk.{isOn, ended, toCome, Goes, Placed, Memory}
+use Rattle.pretree.specs.Walk.{Stage}
+use Rattle.pretree.specs.Walk.{On, AtNone, AtRow, AtDamage}
+use Rattle.pretree.specs.Walk.{Walk}
+use Rattle.pretree.specs.Walk.{ended, toCome, Goes, Placed, Memory}
 
 -- it ended at damage
 abbrev pub isDamage : Stage → Bool
@@ -41,15 +41,3 @@ pub record Going (rows : ℕ → Row) (f : Rule) (width count : ℕ) (whole : Wa
   pub memory : Memory width w
   pub fits : w .bits ≤ width
   pub same-count : w .count ≡ count
-
--- there is such a way, of 32 bits at most
-pub record GoingSome (rows : ℕ → Row) (f : Rule) (w : Walk) : Type 0 where
-  pub width : ℕ
-  pub whole : Way
-  pub at-most-32 : width ≤ 32
-  pub going : Going rows f width (w .count) whole w
-
--- the walk p has gone on from the walk w to the end: on whatever way w was, p has gone it
-pub record GoneOn (rows : ℕ → Row) (f : Rule) (w p : Walk) : Type 0 where
-  pub gone : (width : ℕ) (whole : Way) → Going rows f width (w .count) whole w → Going rows f width (w .count) whole p
-  pub ended : isOn (p .stage) ≡ false

@@ -9,12 +9,16 @@ use lib.Seq.{sets}
 use Rattle.ordered.specs.Word.{Side, left, right, bitOf}
 use Rattle.pretree.specs.declared.Row.{Row}
 
+-- key, left link, right link
+abbrev pub rowWords : ℕ
+rowWords = 3
+
 unfoldable pub capacity : List ℕ → ℕ
-capacity table = min (length table / 3) 65535
+capacity table = min (length table / rowWords) 65535
 
 unfoldable pub rowAt : List ℕ → ℕ → Row
 rowAt table i =
-    record { entry = record { key = getD table (3 * i) 0 }; left = getD table (3 * i + 1) 0; right = getD table (3 * i + 2) 0 }
+    record { entry = record { key = getD table (rowWords * i) 0 }; left = getD table (rowWords * i + 1) 0; right = getD table (rowWords * i + 2) 0 }
 
 abbrev pub link : Row → Side → ℕ
 link r left = r .left
@@ -22,10 +26,10 @@ link r right = r .right
 
 -- the table with another key, another link, another row at row i
 unfoldable pub withKey : ℕ → ℕ → List ℕ → List ℕ
-withKey i k table = set table (3 * i) k
+withKey i k table = set table (rowWords * i) k
 
 unfoldable pub withLink : ℕ → Side → ℕ → List ℕ → List ℕ
-withLink i s j table = set table (3 * i + 1 + bitOf s) j
+withLink i s j table = set table (rowWords * i + 1 + bitOf s) j
 
 -- another link, if there is such a row
 abbrev pub hooked : Bool → ℕ → Side → ℕ → List ℕ → List ℕ
@@ -33,7 +37,7 @@ hooked true i s j table = withLink i s j table
 hooked false i s j table = table
 
 unfoldable pub withRow : ℕ → Row → List ℕ → List ℕ
-withRow i r table = sets table (3 * i) (r .entry .key ∷ r .left ∷ r .right ∷ [])
+withRow i r table = sets table (rowWords * i) (r .entry .key ∷ r .left ∷ r .right ∷ [])
 
 -- a row of three zeros
 abbrev pub cleared : Row

@@ -9,18 +9,33 @@ use lib.ListN.{length}
 use Rattle.ordered.specs.Such.{if_then_else_, Perhaps, no-such, such, first-of, last-such, anything}
 use Rattle.ordered.specs.Word.{Side, left, right, other, sideOf, bitOf, side}
 use Rattle.ordered.specs.Tree.{Tree, none, row, damaged}
-use Rattle.ordered.specs.Way.{Way, Step, Rule, way, ending, stop, to}
-use Rattle.ordered.specs.Way as Ways
+use Rattle.ordered.specs.Way.{Way, Step, Rule, Turn, way, ending, stop, to}
 use Rattle.ordered.specs.Reading.{right-left-aside}
 use Rattle.pretree.specs.declared.Header.{Header}
 use Rattle.pretree.specs.declared.Row.{Row}
-use Rattle.pretree.specs.declared.walk.Stage.{Stage}
-use Rattle.pretree.specs.declared.walk.Stage.the-variants.{On, AtNone, AtRow, AtDamage}
-use Rattle.pretree.specs.declared.walk.Turn.{Turn}
-use Rattle.pretree.specs.declared.walk.Turn.the-variants.{Stop, Left, Right}
-use Rattle.pretree.specs.declared.walk.Walk.{Walk}
 use Rattle.pretree.specs.Table.{capacity, rowAt, link}
 use Rattle.pretree.specs.Unfold.{ends-there, linked, unfolded, shown}
+
+-- where a walk is: at a row that it wants to read, or at its end, which is an empty link, a row or damage
+pub data Stage : Type 0 where
+  On AtNone AtRow AtDamage : Stage
+
+pub record Walk : Type 0 where
+  pub count : ℕ
+  -- the row that it wants or at which it ended, the bits left there, the path to it as a number, and the least key that is no damage
+  pub row : ℕ
+  pub bits : ℕ
+  pub path : ℕ
+  pub low : ℕ
+  -- the key of the row that it read last
+  pub key : ℕ
+  -- the last row that it passed
+  pub above : ℕ
+  -- the deepest row that it passed where it went left and a right link exists, if there is any, with the bits left below it
+  pub aside : ℕ
+  pub beneath : ℕ
+  pub any : Bool
+  pub stage : Stage
 
 abbrev pub started : Header → Walk
 started h =
@@ -130,21 +145,15 @@ passed w k bit l =
 
 -- a left turn is remembered where there is a right link
 unfoldable pub turned : Walk → Row → Turn → Walk
-turned w r Stop = ended w AtRow (r .entry .key)
-turned w r Left = passed (if eqb (r .right) 0 then w else remembering w) (r .entry .key) 0 (r .left)
-turned w r Right = passed w (r .entry .key) 1 (r .right)
+turned w r stop = ended w AtRow (r .entry .key)
+turned w r (to left) = passed (if eqb (r .right) 0 then w else remembering w) (r .entry .key) 0 (r .left)
+turned w r (to right) = passed w (r .entry .key) 1 (r .right)
 
 unfoldable pub met : Walk → Row → Turn → Walk
 met w r turn =
     if not (holds w r) then ended w AtDamage (r .entry .key)
     else if eqb (w .bits) 0 then ended w AtRow (r .entry .key)
     else turned w r turn
-
--- the turn as a rule says it
-abbrev pub turnOf : Turn → Ways.Turn
-turnOf Stop = stop
-turnOf Left = to left
-turnOf Right = to right
 
 -- the tree at the row that the walk wants, or at which it ended
 abbrev pub treeAt : (ℕ → Row) → Walk → Tree
@@ -218,10 +227,6 @@ pub record Walked (rows : ℕ → Row) (f : Rule) (width count : ℕ) (tree : Tr
   pub walking : Walking rows f width count tree w
   pub ended : isOn (w .stage) ≡ false
 
-abbrev pub toward : Side → Turn
-toward left = Left
-toward right = Right
-
 -- the rule of the walks by a word: the way of k where the limit is k; and where it is k + 1 "rows equal to k are passed through"
 unfoldable pub seeking : ℕ → ℕ → Rule
 seeking limit k m e l r =
@@ -231,9 +236,9 @@ seeking limit k m e l r =
 -- the same as a turn, at a row with that key and so many bits left
 abbrev pub seekTurn : ℕ → ℕ → ℕ → ℕ → Turn
 seekTurn limit k key bits =
-    if eqb bits 0 then Stop
-    else if leb limit key then Stop
-    else toward (side (pred bits) k)
+    if eqb bits 0 then stop
+    else if leb limit key then stop
+    else to (side (pred bits) k)
 
 -- a walk that may begin in this table: what it wants stands there
 pub record Begun (table : List ℕ) (w : Walk) : Type 0 where
@@ -258,10 +263,6 @@ pub record Fell (rows : ℕ → Row) (f : Rule) (w r : Walk) : Type 0 where
 -- the link on the side s first, else the other
 abbrev pub downTurn : Side → Row → Turn
 downTurn s r =
-    if not (eqb (link r s) 0) then toward s
-    else if not (eqb (link r (other s)) 0) then toward (other s)
-    else Stop
-
--- the walk that begins at the part of a row on a side, with m bits left there
-abbrev pub partStart : ℕ → Row → Side → ℕ → Walk
-partStart count r s m = startedAt count (link r s) m (r .entry .key / 2 ^ suc m * 2 + bitOf s) (suc (r .entry .key))
+    if not (eqb (link r s) 0) then to s
+    else if not (eqb (link r (other s)) 0) then to (other s)
+    else stop

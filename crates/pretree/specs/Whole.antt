@@ -9,7 +9,7 @@ use Rattle.ordered.specs.Tree.{listing}
 use Rattle.pretree.specs.declared.Header.{Header}
 use Rattle.pretree.specs.declared.Answer.the-variants.{Done, WrongWidth, WrongHeader, Damage, ShortBuffer}
 use Rattle.pretree.specs.declared.Reply.{Reply}
-use Rattle.pretree.specs.Table.{capacity}
+use Rattle.pretree.specs.Table.{rowWords, capacity}
 use Rattle.pretree.specs.Unfold.{shown}
 use Rattle.pretree.specs.Sound.{isSound}
 use Rattle.pretree.specs.Reply.{fresh, wrong-width, wrong-header, refused, answered}
@@ -23,7 +23,7 @@ newReply h width =
 -- "Words past the last whole row, or past that limit, are never changed."
 unfoldable pub newTable : List ℕ → ℕ → List ℕ
 newTable table width =
-    let words : ℕ = 3 * capacity table in
+    let words : ℕ = rowWords * capacity table in
     if wrong-width width then table
     else replicate words 0 ++ drop words table
 

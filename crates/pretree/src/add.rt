@@ -1,30 +1,34 @@
 // `add`: a word is put in its row, and the keys that it displaces are pushed down.
-// Document 01: "All of it is judged before anything is written." One walk goes the way of the word and then the push, and reads every
-// row of both; only where nothing is refused any more does a second pass over the push write.
+// Document 01: "All of it is judged before anything is written." The way of the word and then the push are read first; only where nothing is
+// refused any more does a second pass over the push write.
 
 use crate::Answer;
 use crate::Entry;
 use crate::Header;
 use crate::Reply;
 use crate::Row;
-use crate::seek::seek_turn;
-use crate::seek::way_of;
+use crate::leg::End;
+use crate::leg::Leg;
+use crate::leg::Place;
+use crate::leg::bits_of;
+use crate::leg::link_end;
+use crate::leg::own_side;
+use crate::leg::pushed;
+use crate::seek::seek_end;
+use crate::seek::sought;
 use crate::table::capacity;
-use crate::table::link_at;
 use crate::table::row_at;
-use crate::walk::Walk;
 use crate::write::hook;
 use crate::write::put_entry;
 use crate::write::put_row;
+use crate::write::side_of;
 ghost use mathlib.Core.Path.{_≡_};
 ghost use mathlib.Core.Bool.{false};
 ghost use Prim.Native.Nat.{_-_, _≤_, _<_};
-ghost use Rattle.ordered.specs.Way.{pushing};
 ghost use Rattle.pretree.specs.Table.{capacity, rowAt};
 ghost use Rattle.pretree.specs.Reply.{wrong-header, too-wide};
-ghost use Rattle.pretree.specs.Resume.{resumed, GoingSome, GoneOn};
 ghost use Rattle.pretree.specs.Add.{addOutcome, taking};
-ghost use Rattle.pretree.specs.Push.{takes-from, left-from, Rising, grownAt, Growable, outcomeWhere};
+ghost use Rattle.pretree.specs.Push.{takes-from, left-from, Rising, endBits, endSide, Growable, grownOutcome, Displaces};
 
 impl Header {
     // "`add` k: the way of k. If it ends at a key greater than k, that row takes k and its old key is pushed down".
@@ -35,85 +39,95 @@ impl Header {
         if self.refuses(table, word) {
             return self.refusal(table);
         }
-        self.added(table, word)
+        if self.count == 0 {
+            let start = Leg {
+                at: Place::root(self.width),
+                above: 0,
+            };
+            return self.grown(table, word, 0, self.width, start);
+        }
+        let s = sought(table, self, word);
+        let end = seek_end(table, self.count as usize, word, s);
+        match end {
+            End::Damage => self.refused(Answer::Damage),
+            End::None => self.grown(
+                table,
+                word,
+                s.row,
+                bits_of(s.mask),
+                Leg {
+                    at: s.place(word),
+                    above: s.above,
+                },
+            ),
+            End::Row(row) => {
+                if row.entry.key == word {
+                    return self.answered(Answer::AlreadyThere, self.width - bits_of(s.mask) + 1);
+                }
+                self.displaced(table, word, s.place(word), row)
+            }
+        }
     }
 
-    fn added(self, table: &mut [u32], word: u32) -> Reply
+    // The way of the word ended at that row, whose key is greater: "its old key is pushed down by its own bits".
+    fn displaced(self, table: &mut [u32], word: u32, at: Place, row: Row) -> Reply
         requires header { ⌜ wrong-header self (now table) ≡ false ⌝ }
         requires width { ⌜ too-wide self word ≡ false ⌝ }
+        requires ends { ⌜ Displaces self (now table) word at row ⌝ }
         ensures { λ r. ⌜ r ≡ addOutcome self (now (table .entry)) word .reply ⌝ }
         ensures { λ _. ⌜ now (table .exit) ≡ addOutcome self (now (table .entry)) word .table ⌝ }
     {
-        let w = way_of(table, self, word, word as u64);
-        if w.ends_at(word) {
-            return self.answered(Answer::AlreadyThere, w.rows(self.width));
-        }
-        let p = push_way(table, w);
-        self.added_where(table, word, w.row, w.bits, p)
-    }
-
-    // The word is not there: the push from row `from`, with so many bits left, ended as the walk p.
-    fn added_where(self, table: &mut [u32], word: u32, from: u32, bits: u32, p: Walk) -> Reply
-        requires header { ⌜ wrong-header self (now table) ≡ false ⌝ }
-        requires growable { ⌜ Growable self (now table) from bits p ⌝ }
-        requires fits { ⌜ p .bits ≤ self .width ⌝ }
-        ensures { λ r. ⌜ r ≡ outcomeWhere self (now (table .entry)) word from bits p .reply ⌝ }
-        ensures { λ _. ⌜ now (table .exit) ≡ outcomeWhere self (now (table .entry)) word from bits p .table ⌝ }
-    {
-        if p.is_damaged() {
+        let start = Leg {
+            at: at.below(row, own_side(at.mask, row.entry.key)),
+            above: at.row,
+        };
+        let leg = pushed(table, self.count as usize, start);
+        let end = link_end(table, self.count as usize, leg.at);
+        if let End::Damage = end {
             return self.refused(Answer::Damage);
         }
+        self.grown(table, word, at.row, bits_of(at.mask), leg)
+    }
+
+    // "The new row is row `count`, with both links 0, linked where the way or the push ended": the leg is there. The push began at row `from`.
+    fn grown(self, table: &mut [u32], word: u32, from: usize, bits: u32, leg: Leg) -> Reply
+        requires header { ⌜ wrong-header self (now table) ≡ false ⌝ }
+        requires growable { ⌜ Growable self (now table) from bits (endBits leg) (leg .above) ⌝ }
+        ensures { λ r. ⌜ r ≡ grownOutcome self (now (table .entry)) word from bits (endBits leg) (leg .above) (endSide leg) .reply ⌝ }
+        ensures { λ _. ⌜ now (table .exit) ≡ grownOutcome self (now (table .entry)) word from bits (endBits leg) (leg .above) (endSide leg) .table ⌝ }
+    {
         if self.count == capacity(table) {
             return self.refused(Answer::Full);
         }
-        self.grow(table, word, from, bits, p);
-        let more = Header {
-            width: self.width,
-            count: self.count + 1,
-        };
-        more.answered(Answer::Done, p.rows(self.width))
-    }
-
-    // "The new row is row `count`, with both links 0, linked where the way or the push ended".
-    fn grow(self, table: &mut [u32], word: u32, from: u32, bits: u32, p: Walk)
-        requires room { ⌜ self .count < capacity (now table) ⌝ }
-        requires growable { ⌜ Growable self (now table) from bits p ⌝ }
-        ensures { λ _. ⌜ now (table .exit) ≡ grownAt self (now (table .entry)) word from bits p ⌝ }
-    {
-        let end = p.bits;
+        let end = bits_of(leg.at.mask);
         let entry = push(table, from, bits, end, Entry { key: word });
-        hook(table, end < self.width, p.above, p.path % 2, self.count);
+        hook(
+            table,
+            end < self.width,
+            leg.above,
+            side_of(leg.at, end),
+            self.count,
+        );
         put_row(
             table,
-            self.count,
+            self.count as usize,
             Row {
                 entry,
                 left: Header::NONE,
                 right: Header::NONE,
             },
         );
+        let more = Header {
+            width: self.width,
+            count: self.count + 1,
+        };
+        more.answered(Answer::Done, self.width - end)
     }
-}
-
-// The push from the row at which a walk ended, judged. Document 01's "by its own bits" is the turn of a walk that seeks the row's key past itself.
-fn push_way(table: &[u32], w: Walk) -> Walk
-    requires { ⌜ (w .count ≤ capacity (now table)) × GoingSome (rowAt (now table)) pushing (resumed w) ⌝ }
-    ensures { λ r. ⌜ GoneOn (rowAt (now (table .entry))) pushing (resumed w) r ⌝ }
-{
-    let mut p = w.resumed();
-    while p.is_on() {
-        let at = p.row;
-        let row = row_at(table, at);
-        let key = row.entry.key;
-        let turn = seek_turn(key, key as u64 + 1, key, p.bits);
-        p = p.met(row, turn);
-    }
-    p
 }
 
 // The push from row `from`, written: "taking each next row's place in turn", from so many bits left down to `end`. The result is the
 // entry that is left over.
-fn push(table: &mut [u32], from: u32, bits: u32, end: u32, entry: Entry) -> Entry
+fn push(table: &mut [u32], from: usize, bits: u32, end: u32, entry: Entry) -> Entry
     requires bits { ⌜ (end ≤ bits) × (bits ≤ 32) ⌝ }
     requires rows { ⌜ Rising (rowAt (now table)) (capacity (now table)) end (bits - end) from 0 ⌝ }
     ensures { λ r. ⌜ r ≡ left-from (rowAt (now (table .entry))) end (bits - end) from entry ⌝ }
@@ -125,11 +139,14 @@ fn push(table: &mut [u32], from: u32, bits: u32, end: u32, entry: Entry) -> Entr
     while end < left {
         left = left - 1;
         let row = row_at(table, at);
-        let key = row.entry.key as u64;
-        let next = link_at(table, at, (key >> left) % 2);
+        let next = if (row.entry.key >> left) % 2 == 0 {
+            row.left
+        } else {
+            row.right
+        };
         put_entry(table, at, carried);
         carried = row.entry;
-        at = next;
+        at = next as usize;
     }
     carried
 }

@@ -6,44 +6,49 @@ use crate::Entry;
 use crate::Header;
 use crate::Reply;
 use crate::Row;
-use crate::fall::fallen;
-use crate::seek::way_of;
+use crate::leg::End;
+use crate::leg::Leg;
+use crate::leg::Place;
+use crate::leg::bits_of;
+use crate::leg::down;
+use crate::leg::row_end;
+use crate::seek::seek_end;
+use crate::seek::sought;
 use crate::table::row_at;
-use crate::walk::Stage;
-use crate::walk::Walk;
 use crate::write::hook;
 use crate::write::put_entry;
 use crate::write::put_row;
+use crate::write::side_of;
 ghost use mathlib.Core.Path.{_≡_};
 ghost use mathlib.Core.Bool.{true, false};
-ghost use Prim.Native.Nat.{_<_};
+ghost use Prim.Native.Nat.{_<_, _≤_};
 ghost use Rattle.ordered.specs.Change.{erasing};
 ghost use Rattle.pretree.specs.Table.{capacity, rowAt};
 ghost use Rattle.pretree.specs.Unfold.{shown};
 ghost use Rattle.pretree.specs.Reply.{wrong-header, too-wide};
-ghost use Rattle.pretree.specs.Walk.{seeking, Walked};
 ghost use Rattle.pretree.specs.Add.{taking};
 ghost use Rattle.pretree.specs.Del.{delOutcome};
-ghost use Rattle.pretree.specs.Resume.{endsAt};
-ghost use Rattle.pretree.specs.Erased.{restarted, hookOf, Hangs, beneath, raising, Rises, Hollow, Moves, Within, filled, emptied};
+ghost use Rattle.pretree.specs.Erased.{keyIn, hookOf, noLink, RowOfKey, JudgedStretch, JudgedMove, Hangs, raising, Rises, Within, filled, emptied};
 
 // Where the end of a way is linked: the row above it, and the side to which the way turned there. The root is linked nowhere.
 pub struct Hook {
     pub linked: bool,
-    pub above: u32,
-    pub side: u64,
+    pub above: usize,
+    pub side: u32,
 }
 
-// The stretch of an erase, judged: from k's row so many rows down to the hole, with all the rows that were read.
+// The stretch of an erase, judged: from row `from`, which is k's, `steps` rows down to the hole; where the hole is linked; and all the rows
+// read, those of the way of k too.
 pub struct Hole {
-    pub from: u32,
+    pub from: usize,
     pub steps: u32,
-    pub row: u32,
+    pub row: usize,
     pub hook: Hook,
     pub rows: u32,
 }
 
-// The move of the last row, judged: whether there is one, whether its way goes astray, where its row is linked, and its rows.
+// The move of the last row, judged: whether there is one, whether the last row's way goes astray, where the row is linked, and the rows of
+// that way.
 pub struct Move {
     pub needed: bool,
     pub astray: bool,
@@ -60,65 +65,66 @@ impl Header {
         if self.refuses(table, word) {
             return self.refusal(table);
         }
-        self.erased(table, word)
+        if self.count == 0 {
+            return self.answered(Answer::NoSuchWord, 0);
+        }
+        let s = sought(table, self, word);
+        let end = seek_end(table, self.count as usize, word, s);
+        let passed = self.width - bits_of(s.mask);
+        match end {
+            End::Damage => self.refused(Answer::Damage),
+            End::None => self.answered(Answer::NoSuchWord, passed),
+            End::Row(row) => {
+                if row.entry.key == word {
+                    return self.erased(table, s.place(word), s.above);
+                }
+                self.answered(Answer::NoSuchWord, passed + 1)
+            }
+        }
     }
 
-    // The way of k, and the refusals and the answer 8 where it doesn't end at k.
-    fn erased(self, table: &mut [u32], word: u32) -> Reply
+    // The way of k ended at k's row, at that place below the row `above`. The stretch below is judged.
+    fn erased(self, table: &mut [u32], at: Place, above: usize) -> Reply
         requires header { ⌜ wrong-header self (now table) ≡ false ⌝ }
-        requires width { ⌜ too-wide self word ≡ false ⌝ }
-        ensures reply { λ r. ⌜ r ≡ delOutcome self (now (table .entry)) word .reply ⌝ }
-        ensures table { λ r. ⌜ now (table .exit) ≡ delOutcome self (now (table .entry)) word .table ⌝ }
+        requires width { ⌜ too-wide self (keyIn (now table) (at .row)) ≡ false ⌝ }
+        requires found { ⌜ RowOfKey self (now table) (keyIn (now table) (at .row)) at above ⌝ }
+        ensures reply { λ r. ⌜ r ≡ delOutcome self (now (table .entry)) (keyIn (now (table .entry)) (at .row)) .reply ⌝ }
+        ensures table { λ r. ⌜ now (table .exit) ≡ delOutcome self (now (table .entry)) (keyIn (now (table .entry)) (at .row)) .table ⌝ }
     {
-        let w = way_of(table, self, word, word as u64);
-        if w.ends_at(word) {
-            return self.hollowed(table, word, w);
-        }
-        if w.is_damaged() {
+        let leg = down(table, self.count as usize, Leg { at, above }, 0);
+        let end = row_end(table, self.count as usize, leg.at);
+        if let End::Damage = end {
             return self.refused(Answer::Damage);
         }
-        self.answered(Answer::NoSuchWord, w.rows(self.width))
-    }
-
-    // The way ended at k: the stretch below, judged.
-    fn hollowed(self, table: &mut [u32], word: u32, w: Walk) -> Reply
-        requires header { ⌜ wrong-header self (now table) ≡ false ⌝ }
-        requires width { ⌜ too-wide self word ≡ false ⌝ }
-        requires walked { ⌜ Walked (rowAt (now table)) (seeking word word) (self .width) (self .count) (shown self (now table)) w ⌝ }
-        requires there { ⌜ endsAt word (w .key) (w .stage) ≡ true ⌝ }
-        ensures reply { λ r. ⌜ r ≡ delOutcome self (now (table .entry)) word .reply ⌝ }
-        ensures table { λ r. ⌜ now (table .exit) ≡ delOutcome self (now (table .entry)) word .table ⌝ }
-    {
-        let s = fallen(table, restarted(w), 0);
-        if s.is_damaged() {
-            return self.refused(Answer::Damage);
-        }
+        let bits = bits_of(leg.at.mask);
+        let steps = bits_of(at.mask) - bits;
+        let rows = self.width - bits + 1;
         let hole = Hole {
-            from: w.row,
-            steps: w.bits - s.bits,
-            row: s.row,
-            hook: hook_of(s, self.width),
-            rows: s.rows(self.width),
+            from: at.row,
+            steps,
+            row: leg.at.row,
+            hook: hook_of(leg.at, bits, self.width, leg.above),
+            rows,
         };
-        self.filled(table, word, hole)
+        self.filled(table, hole)
     }
 
     // "If the hole is not row count−1, that last row is moved into it."
-    fn filled(self, table: &mut [u32], word: u32, hole: Hole) -> Reply
+    fn filled(self, table: &mut [u32], hole: Hole) -> Reply
         requires header { ⌜ wrong-header self (now table) ≡ false ⌝ }
-        requires width { ⌜ too-wide self word ≡ false ⌝ }
+        requires width { ⌜ too-wide self (keyIn (now table) (hole .from)) ≡ false ⌝ }
         requires some { ⌜ 0 < self .count ⌝ }
-        requires hollow { ⌜ Hollow (erasing (self .width) word (shown self (now table))) (now table) hole ⌝ }
+        requires judged { ⌜ JudgedStretch (erasing (self .width) (keyIn (now table) (hole .from)) (shown self (now table))) (now table) hole ⌝ }
         requires within { ⌜ Within (now table) hole ⌝ }
-        ensures reply { λ r. ⌜ r ≡ delOutcome self (now (table .entry)) word .reply ⌝ }
-        ensures table { λ r. ⌜ now (table .exit) ≡ delOutcome self (now (table .entry)) word .table ⌝ }
+        ensures reply { λ r. ⌜ r ≡ delOutcome self (now (table .entry)) (keyIn (now (table .entry)) (hole .from)) .reply ⌝ }
+        ensures table { λ r. ⌜ now (table .exit) ≡ delOutcome self (now (table .entry)) (keyIn (now (table .entry)) (hole .from)) .table ⌝ }
     {
         let m = self.move_of(table, hole.row);
         if m.astray {
             return self.refused(Answer::Damage);
         }
         let last = self.count - 1;
-        shrink(table, last, hole, m);
+        shrink(table, last as usize, hole, m);
         Reply {
             header: Header {
                 width: self.width,
@@ -131,39 +137,57 @@ impl Header {
     }
 
     // "a second way, the way of the last row's key on the table as it was before the call, gives the link to be set"
-    fn move_of(self, table: &[u32], hole: u32) -> Move
+    // The way of a key of 2^W or more goes astray: no row that is no damage has such a key. `sought` asks for a word.
+    fn move_of(self, table: &[u32], hole: usize) -> Move
         requires header { ⌜ wrong-header self (now table) ≡ false ⌝ }
         requires some { ⌜ 0 < self .count ⌝ }
-        ensures judged { λ r. ⌜ Moves self (now (table .entry)) hole r ⌝ }
+        ensures judged { λ r. ⌜ JudgedMove self (now (table .entry)) hole r ⌝ }
         ensures hangs { λ r. ⌜ Hangs (capacity (now (table .entry))) (r .hook) ⌝ }
     {
-        let last = self.count - 1;
+        let last = (self.count - 1) as usize;
         if hole == last {
-            return Move {
-                needed: false,
-                astray: false,
-                hook: Hook {
-                    linked: false,
-                    above: 0,
-                    side: 0,
-                },
-                rows: 0,
-            };
+            return no_link(false, false);
         }
         let key = row_at(table, last).entry.key;
-        let w = way_of(table, self, key, key as u64);
-        let there = w.ends_at(key);
+        if self.is_exceeded_by(key) {
+            return no_link(true, true);
+        }
+        let s = sought(table, self, key);
+        let end = seek_end(table, self.count as usize, key, s);
+        let bits = bits_of(s.mask);
+        let rows = self.width - bits + 1;
+        let ends = if let End::Row(row) = end {
+            s.row == last
+        } else {
+            false
+        };
         Move {
             needed: true,
-            astray: !(there & (w.row == last)),
-            hook: hook_of(w, self.width),
-            rows: w.rows(self.width),
+            astray: !ends,
+            hook: hook_of(s.place(key), bits, self.width, s.above),
+            rows,
         }
     }
 }
 
+// A move that sets no link: there is none, or it goes astray.
+fn no_link(needed: bool, astray: bool) -> Move
+    ensures { λ r. ⌜ r ≡ noLink needed astray ⌝ }
+{
+    Move {
+        needed,
+        astray,
+        hook: Hook {
+            linked: false,
+            above: 0,
+            side: 0,
+        },
+        rows: 0,
+    }
+}
+
 // "keys up, unlink, move, set the link"; "Row count−1 is then three zeros."
-fn shrink(table: &mut [u32], last: u32, hole: Hole, m: Move)
+fn shrink(table: &mut [u32], last: usize, hole: Hole, m: Move)
     requires last { ⌜ last < capacity (now table) ⌝ }
     requires hole { ⌜ Within (now table) hole ⌝ }
     requires hook { ⌜ Hangs (capacity (now table)) (m .hook) ⌝ }
@@ -187,7 +211,7 @@ fn shrink(table: &mut [u32], last: u32, hole: Hole, m: Move)
 }
 
 // "that last row is moved into it", and linked there.
-fn fill(table: &mut [u32], hole: u32, last: u32, m: Move)
+fn fill(table: &mut [u32], hole: usize, last: usize, m: Move)
     requires rows { ⌜ (hole < capacity (now table)) × (last < capacity (now table)) ⌝ }
     requires hook { ⌜ Hangs (capacity (now table)) (m .hook) ⌝ }
     ensures { λ _. ⌜ now (table .exit) ≡ filled hole last m (now (table .entry)) ⌝ }
@@ -195,12 +219,12 @@ fn fill(table: &mut [u32], hole: u32, last: u32, m: Move)
     if m.needed {
         let row = row_at(table, last);
         put_row(table, hole, row);
-        hook(table, m.hook.linked, m.hook.above, m.hook.side, hole);
+        hook(table, m.hook.linked, m.hook.above, m.hook.side, hole as u32);
     }
 }
 
 // "each row taking the key below"
-fn raise(table: &mut [u32], from: u32, steps: u32)
+fn raise(table: &mut [u32], from: usize, steps: u32)
     requires { ⌜ Rises (rowAt (now table)) (capacity (now table)) steps from ⌝ }
     ensures { λ _. ⌜ now (table .exit) ≡ taking (raising (rowAt (now (table .entry))) steps from) (now (table .entry)) ⌝ }
 {
@@ -208,47 +232,22 @@ fn raise(table: &mut [u32], from: u32, steps: u32)
     let mut left = steps;
     while left != 0 {
         let row = row_at(table, at);
-        let below = beneath(row);
-        let next = row_at(table, below);
+        let below = if row.left != 0 { row.left } else { row.right };
+        let next = row_at(table, below as usize);
         put_entry(table, at, next.entry);
-        at = below;
+        at = below as usize;
         left -= 1;
     }
 }
 
-// "by left link, else right link"
-fn beneath(row: Row) -> u32
-    ensures { λ r. ⌜ r ≡ beneath row ⌝ }
-{
-    if row.left != 0 { row.left } else { row.right }
-}
-
-// Where the end of a walk from a root with so many bits left is linked.
-fn hook_of(w: Walk, width: u32) -> Hook
-    ensures { λ r. ⌜ r ≡ hookOf w width ⌝ }
+// Where a place is linked that has `bits` left: nowhere at the root, else below the row `above`.
+fn hook_of(at: Place, bits: u32, width: u32, above: usize) -> Hook
+    requires narrow { ⌜ bits ≤ 32 ⌝ }
+    ensures { λ r. ⌜ r ≡ hookOf at bits width above ⌝ }
 {
     Hook {
-        linked: w.bits < width,
-        above: w.above,
-        side: w.path % 2,
-    }
-}
-
-// The walk wants the row at which it ended, and has nothing remembered aside.
-fn restarted(w: Walk) -> Walk
-    ensures { λ r. ⌜ r ≡ restarted w ⌝ }
-{
-    Walk {
-        count: w.count,
-        row: w.row,
-        bits: w.bits,
-        path: w.path,
-        low: w.low,
-        key: w.key,
-        above: w.above,
-        aside: w.aside,
-        beneath: w.beneath,
-        any: false,
-        stage: Stage::On,
+        linked: bits < width,
+        above,
+        side: side_of(at, bits),
     }
 }

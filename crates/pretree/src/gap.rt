@@ -3,14 +3,16 @@
 use crate::Answer;
 use crate::Header;
 use crate::Reply;
-use crate::seek::way_of;
-use crate::walk::Stage;
+use crate::leg::End;
+use crate::leg::bits_of;
+use crate::seek::seek_end;
+use crate::seek::sought;
 ghost use mathlib.Core.Path.{_≡_};
 ghost use mathlib.Core.Bool.{false};
-ghost use Prim.Native.Nat.{_≤_, _-_, _+_, min};
+ghost use Prim.Native.Nat.{_-_, min};
 ghost use Rattle.pretree.specs.Reply.{wrong-header, too-wide};
 ghost use Rattle.pretree.specs.Find.{gapReply, prevReply, nextReply};
-ghost use Rattle.pretree.specs.Gap.{neighbour, from-below, from-above, between, gap-from};
+ghost use Rattle.pretree.specs.Gap.{neighbour, from-below, from-above, between};
 
 // What `prev` or `next` found: a word, that there is none, or damage.
 pub enum Neighbour {
@@ -51,25 +53,18 @@ impl Header {
         if self.refuses(table, word) {
             return self.refusal(table);
         }
-        let w = way_of(table, self, word, word as u64);
-        let rows = w.rows(self.width);
-        let stage = w.stage;
-        self.gap_at(table, word, stage, w.key, rows)
-    }
-
-    fn gap_at(self, table: &[u32], word: u32, stage: Stage, key: u32, rows: u32) -> Reply
-        requires header { ⌜ wrong-header self (now table) ≡ false ⌝ }
-        requires width { ⌜ too-wide self word ≡ false ⌝ }
-        ensures { λ r. ⌜ r ≡ gap-from self (now (table .entry)) word key rows stage ⌝ }
-    {
-        if let Stage::AtDamage = stage {
+        if self.count == 0 {
+            return self.answered(Answer::NoSuchWord, 0);
+        }
+        let s = sought(table, self, word);
+        let end = seek_end(table, self.count as usize, word, s);
+        if let End::Damage = end {
             return self.refused(Answer::Damage);
         }
-        if let Stage::AtRow = stage {
-            if word == key {
-                return self.answered(Answer::Distance(0), rows);
+        if let End::Row(row) = end {
+            if row.entry.key == word {
+                return self.answered(Answer::Distance(0), self.width - bits_of(s.mask) + 1);
             }
-            return self.nearest(table, word);
         }
         self.nearest(table, word)
     }

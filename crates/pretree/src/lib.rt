@@ -3,14 +3,13 @@
 
 mod add;
 mod erase;
-mod fall;
 mod find;
 mod gap;
-mod near;
+mod leg;
+mod next;
+mod prev;
 mod seek;
-mod skim;
 mod table;
-mod walk;
 mod whole;
 mod write;
 

@@ -1,46 +1,221 @@
-// The walk by the bits of a word, up to a limit: the way of k is that of limit k, and the way of `next` that of limit k + 1.
+// The leg that follows a word's bits: the way of the word. It judges a row by one number, the words between the row's key and the word. Fewer
+// than at the row above says that the key is greater than "that of the row it was reached from"; fewer than the word's last bits say that it
+// has "the bits of the path". What a call does not need of its memory costs nothing, as long as the compiler makes one piece of the call and
+// the loop: tests/speed counts that.
 
 use crate::Header;
+use crate::Row;
+use crate::leg::End;
+use crate::leg::Place;
+use crate::leg::mask_of;
 use crate::table::row_at;
-use crate::walk::Turn;
-use crate::walk::Walk;
 ghost use mathlib.Core.Path.{_≡_};
 ghost use mathlib.Core.Bool.{false};
-ghost use Prim.Native.Nat.{_≤_};
-ghost use Rattle.pretree.specs.Table.{rowAt};
+ghost use Prim.Native.Nat.{suc, _+_, _*_, _≤_, _<_};
+ghost use Rattle.pretree.specs.Table.{rowWords, capacity, rowAt};
 ghost use Rattle.pretree.specs.Unfold.{shown};
-ghost use Rattle.pretree.specs.Reply.{wrong-header};
-ghost use Rattle.pretree.specs.Walk.{seekTurn, seeking, Walked};
+ghost use Rattle.pretree.specs.Reply.{wrong-header, too-wide};
+ghost use Rattle.pretree.specs.Seek.{begun, passes, turn, stepped, passed, goesOn, gone, endOf, endAt, placeOf, Sought};
 
-// "follow k's bits; stop [..] at the first row whose key is k or more"
-pub(crate) fn seek_turn(word: u32, limit: u64, key: u32, bits: u32) -> Turn
-    requires { ⌜ bits ≤ 32 ⌝ }
-    ensures { λ r. ⌜ r ≡ seekTurn limit word key bits ⌝ }
+pub struct Seek {
+    // the row that it wants, and the table word at which that row begins
+    pub row: usize,
+    pub at: usize,
+    // as many ones as bits are left there
+    pub mask: u32,
+    // the bits of the word that are left, as a number: so many words with the bits of the path are less than the word
+    pub tail: u32,
+    // the words between the key above and the word; at the root all that are less than the word
+    pub between: u32,
+    // the last row that it passed
+    pub above: usize,
+    // the deepest right link that it left aside on a turn to the left, 0 if there is none, and as many ones as bits are left below it
+    pub aside: usize,
+    pub span: u32,
+}
+
+// The words between the key and the word. A key that is not less wraps round, to no fewer than all the words below the word.
+fn words_between(word: u32, key: u32) -> u32
+    ensures less { λ r. ⌜ (key < word → r + suc key ≡ word) ⌝ }
+    ensures notless { λ r. ⌜ (word ≤ key → word ≤ r) ⌝ }
 {
-    if bits == 0 {
-        return Turn::Stop;
-    }
-    if limit <= key as u64 {
-        return Turn::Stop;
-    }
-    if (word >> (bits - 1)) % 2 == 0 {
-        Turn::Left
+    if key < word {
+        word - 1 - key
     } else {
-        Turn::Right
+        u32::MAX - key + word
     }
 }
 
-// The way of a word from the root, up to the limit.
-pub(crate) fn way_of(table: &[u32], h: Header, word: u32, limit: u64) -> Walk
-    requires { ⌜ wrong-header h (now table) ≡ false ⌝ }
-    ensures { λ r. ⌜ Walked (rowAt (now (table .entry))) (seeking limit word) (h .width) (h .count) (shown h (now (table .entry))) r ⌝ }
-{
-    let mut w = Walk::start(h);
-    while w.is_on() {
-        let at = w.row;
-        let row = row_at(table, at);
-        let turn = seek_turn(word, limit, row.entry.key, w.bits);
-        w = w.met(row, turn);
+impl Seek {
+    fn start(width: u32, word: u32) -> Seek
+        requires narrow { ⌜ width ≤ 32 ⌝ }
+        ensures { λ r. ⌜ r ≡ begun width word ⌝ }
+    {
+        Seek {
+            row: 0,
+            at: 0,
+            mask: mask_of(width),
+            tail: word,
+            between: word,
+            above: 0,
+            aside: 0,
+            span: 0,
+        }
     }
-    w
+
+    // The way passes the row with that key.
+    fn passes(self, word: u32, key: u32) -> bool
+        requires between { ⌜ self .between ≤ word ⌝ }
+        ensures { λ r. ⌜ r ≡ passes self word key ⌝ }
+    {
+        let words = words_between(word, key);
+        if self.between <= words {
+            return false;
+        }
+        words < self.tail
+    }
+
+    // The side to which the word's next bit turns it: 0 is left, 1 is right.
+    pub(crate) fn turn(self) -> usize
+        ensures { λ r. ⌜ r ≡ turn self ⌝ }
+    {
+        if self.mask / 2 < self.tail { 1 } else { 0 }
+    }
+
+    // One row further down, by the link to that side. The right link is remembered where the way turns left, for `next`.
+    pub(crate) fn stepped(self, link: u32, right: u32) -> Seek
+        ensures { λ r. ⌜ r ≡ stepped self link right ⌝ }
+    {
+        let half = self.mask / 2;
+        let skipped = if half < self.tail { 0 } else { right };
+        let mut s = Seek {
+            row: link as usize,
+            at: Header::ROW * (link as usize),
+            mask: half,
+            tail: self.tail & half,
+            between: self.between,
+            above: self.row,
+            aside: self.aside,
+            span: self.span,
+        };
+        if skipped != 0 {
+            s.aside = skipped as usize;
+            s.span = half;
+        }
+        s
+    }
+
+    // Past a row with a key less than the word.
+    fn passed(self, word: u32, key: u32, link: u32, right: u32) -> Seek
+        requires less { ⌜ key < word ⌝ }
+        ensures { λ r. ⌜ r ≡ passed self word key link right ⌝ }
+    {
+        let mut s = self.stepped(link, right);
+        s.between = word - 1 - key;
+        s
+    }
+
+    // Where the row that it wants stands.
+    pub(crate) fn place(self, word: u32) -> Place
+        requires tail { ⌜ self .tail ≤ word ⌝ }
+        requires between { ⌜ self .between ≤ word ⌝ }
+        ensures { λ r. ⌜ r ≡ placeOf self word ⌝ }
+    {
+        Place {
+            row: self.row,
+            mask: self.mask,
+            path: word - self.tail,
+            low: (word - self.between) as u64,
+        }
+    }
+
+    // How the way ends, at the row that it does not pass. A link of 0 led to the root, whose key is less than the word.
+    fn end(self, word: u32, row: Row) -> End
+        requires tail { ⌜ self .tail ≤ self .mask ⌝ }
+        ensures { λ r. ⌜ r ≡ endOf self word row ⌝ }
+    {
+        let key = row.entry.key;
+        if key < word {
+            if self.row != 0 {
+                return End::Damage;
+            }
+            if self.between == word {
+                return End::Damage;
+            }
+            return End::None;
+        }
+        if word < key {
+            if self.mask - self.tail < key - word {
+                return End::Damage;
+            }
+            return End::Row(row);
+        }
+        if self.mask != 0 {
+            return End::Row(row);
+        }
+        if row.left != 0 {
+            return End::Damage;
+        }
+        if row.right != 0 {
+            return End::Damage;
+        }
+        End::Row(row)
+    }
+}
+
+// The row that the seek wants is in use, and the way passes it.
+fn goes_on(table: &[u32], count: usize, word: u32, s: Seek) -> bool
+    requires room { ⌜ count ≤ capacity (now table) ⌝ }
+    requires between { ⌜ s .between ≤ word ⌝ }
+    requires at { ⌜ s .at ≡ rowWords * s .row ⌝ }
+    ensures { λ r. ⌜ r ≡ goesOn (rowAt (now (table .entry))) count word s ⌝ }
+{
+    if count <= s.row {
+        return false;
+    }
+    let at = s.at;
+    let key = table[at];
+    s.passes(word, key)
+}
+
+// The seek past that row.
+fn gone(table: &[u32], word: u32, s: Seek) -> Seek
+    requires used { ⌜ s .row < capacity (now table) ⌝ }
+    requires at { ⌜ s .at ≡ rowWords * s .row ⌝ }
+    requires less { ⌜ rowAt (now table) (s .row) .entry .key < word ⌝ }
+    ensures { λ r. ⌜ r ≡ gone (rowAt (now (table .entry))) word s ⌝ }
+{
+    let at = s.at;
+    let key = table[at];
+    let link = table[at + 1 + s.turn()];
+    let right = table[at + 2];
+    s.passed(word, key, link, right)
+}
+
+// The way of the word, as far as it passes rows.
+pub(crate) fn sought(table: &[u32], h: Header, word: u32) -> Seek
+    requires header { ⌜ wrong-header h (now table) ≡ false ⌝ }
+    requires width { ⌜ too-wide h word ≡ false ⌝ }
+    requires some { ⌜ 0 < h .count ⌝ }
+    ensures { λ r. ⌜ Sought (rowAt (now (table .entry))) h (shown h (now (table .entry))) word r ⌝ }
+{
+    let mut s = Seek::start(h.width, word);
+    let count = h.count as usize;
+    while goes_on(table, count, word, s) {
+        s = gone(table, word, s);
+    }
+    s
+}
+
+// How the way ends, where it passes no more rows.
+pub(crate) fn seek_end(table: &[u32], count: usize, word: u32, s: Seek) -> End
+    requires room { ⌜ count ≤ capacity (now table) ⌝ }
+    requires tail { ⌜ s .tail ≤ s .mask ⌝ }
+    ensures { λ r. ⌜ r ≡ endAt (rowAt (now (table .entry))) count word s ⌝ }
+{
+    let i = s.row;
+    if count <= i {
+        return End::Damage;
+    }
+    s.end(word, row_at(table, i))
 }

@@ -7,31 +7,21 @@ use crate::Reply;
 use crate::Row;
 ghost use mathlib.Core.Path.{_≡_};
 ghost use Prim.Native.Nat.{_<_, _≤_};
-ghost use Rattle.ordered.specs.Word.{sideOf};
-ghost use Rattle.pretree.specs.Table.{capacity, rowAt, link};
+ghost use Rattle.pretree.specs.Table.{capacity, rowAt};
 ghost use Rattle.pretree.specs.Reply.{wrong-header, too-wide};
 ghost use Rattle.pretree.specs.Found.{refuses, refusal};
 
 // "Row i begins at table word 3i."
-pub(crate) fn row_at(table: &[u32], i: u32) -> Row
+pub(crate) fn row_at(table: &[u32], i: usize) -> Row
     requires { ⌜ i < capacity (now table) ⌝ }
     ensures { λ r. ⌜ r ≡ rowAt (now (table .entry)) i ⌝ }
 {
-    let at = Header::ROW * (i as usize);
+    let at = Header::ROW * i;
     Row {
         entry: Entry { key: table[at] },
         left: table[at + 1],
         right: table[at + 2],
     }
-}
-
-// The link of row i on one side: 0 is left, 1 is right.
-pub(crate) fn link_at(table: &[u32], i: u32, side: u64) -> u32
-    requires { ⌜ (i < capacity (now table)) × (side < 2) ⌝ }
-    ensures { λ r. ⌜ r ≡ link (rowAt (now (table .entry)) i) (sideOf side) ⌝ }
-{
-    let at = Header::ROW * (i as usize) + 1 + (side as usize);
-    table[at]
 }
 
 // "Capacity is the table's length divided by 3, rounded down, and at most 65,535."

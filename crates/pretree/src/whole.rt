@@ -1,168 +1,138 @@
 // The calls on the whole table: `new`, `audit` and `list`.
-// "The listing of a row's part is its key, then its left part, then its right part": audit and list recurse on rows in that order, with
-// the bits left as the number that falls.
+// "The listing of a row's part is its key, then its left part, then its right part": `audit` and `list` go so through the rows. They recurse on
+// the left part and go on with the right part, with the bits left as the number that falls.
 
 use crate::Answer;
 use crate::Header;
 use crate::Reply;
 use crate::Row;
+use crate::leg::End;
+use crate::leg::Place;
+use crate::leg::link_end;
+use crate::leg::mask_of;
+use crate::leg::row_end;
 use crate::table::capacity;
 use crate::table::row_at;
 ghost use mathlib.Core.Path.{_≡_};
-ghost use mathlib.Core.Bool.{false};
+ghost use mathlib.Core.Bool.{false, not, _&&_};
 ghost use mathlib.Core.List.{_++_};
 ghost use Prim.Native.Nat.{_+_, _*_, _≤_};
+ghost use lib.Dec.{eqb};
 ghost use lib.ListN.{drop, replicate};
 ghost use lib.Seq.{sets};
-ghost use Rattle.ordered.specs.Word.{sideOf};
 ghost use Rattle.ordered.specs.Tree.{listing, size};
-ghost use Rattle.pretree.specs.Table.{capacity, rowAt};
+ghost use Rattle.pretree.specs.Table.{rowWords, capacity, rowAt};
 ghost use Rattle.pretree.specs.Sound.{isSound};
-ghost use Rattle.pretree.specs.Reply.{refused, answered, wrong-header};
+ghost use Rattle.pretree.specs.Reply.{wrong-header};
 ghost use Rattle.pretree.specs.Whole.{newReply, newTable, auditReply, listReply, listBuffer};
-ghost use Rattle.pretree.specs.Part.{root, below, Turns, holds, rowPart, sidePart, counted, Listable};
-
-// Where a row stands: its number, the bits left there, the bits of the path to it, and the least key that is no damage there.
-pub struct Place {
-    pub row: u32,
-    pub bits: u32,
-    pub path: u64,
-    pub low: u64,
-}
-
-// How many rows may still be met after those of a part; or there is damage in it, or it has more rows than may be met.
-pub enum Rest {
-    Rows(u32),
-    Damaged,
-}
+ghost use Rattle.pretree.specs.Seek.{bitsLeft};
+ghost use Rattle.pretree.specs.Part.{ofPlace, rowTree, linkTree, placeTree, counted, StandsSome, Standing, StandingLink, Listable};
 
 impl Place {
-    fn root(width: u32) -> Place
-        ensures { λ r. ⌜ r ≡ root width ⌝ }
+    // Where a row that is no damage stands, as its own key shows.
+    fn of(row: Row, mask: u32) -> Place
+        ensures { λ r. ⌜ r ≡ ofPlace row mask ⌝ }
     {
+        let key = row.entry.key;
         Place {
             row: 0,
-            bits: width,
-            path: 0,
+            mask,
+            path: key - (key & mask),
             low: 0,
         }
     }
+}
 
-    // Where the link on one side of the row leads: 0 is left, 1 is right.
-    fn below(self, row: Row, side: u32) -> Place
-        requires { ⌜ Turns self side ⌝ }
-        ensures { λ r. ⌜ r ≡ below self row (sideOf side) ⌝ }
-    {
-        let link = if side == 0 { row.left } else { row.right };
-        Place {
-            row: link,
-            bits: self.bits - 1,
-            path: self.path * 2 + side as u64,
-            low: row.entry.key as u64 + 1,
-        }
+fn has_link(row: Row) -> bool
+    ensures { λ r. ⌜ r ≡ not (eqb (row .left) 0 && eqb (row .right) 0) ⌝ }
+{
+    if row.left != 0 {
+        return true;
     }
+    row.right != 0
+}
 
-    // The row there is no damage, but for its number.
-    fn holds(self, row: Row) -> bool
-        requires { ⌜ self .bits ≤ 32 ⌝ }
-        ensures { λ r. ⌜ r ≡ holds self row ⌝ }
-    {
-        let key = row.entry.key as u64;
-        let bits = self.bits;
-        if key < self.low {
-            return false;
+// The empty links below a row that is no damage, or 0 where there is damage below. A part has one more of them than it has rows. Keys strictly
+// rise along the rows that are met before the first damage, so none is met twice, on a table with loops or shared rows too.
+fn row_counted(table: &[u32], count: usize, from: usize, bits: u32) -> u64
+    requires room { ⌜ count ≤ capacity (now table) ⌝ }
+    requires row { ⌜ Standing (rowAt (now table)) count bits from ⌝ }
+    ensures { λ r. ⌜ r ≡ counted (rowTree (rowAt (now (table .entry))) count (bitsLeft bits) from) ⌝ }
+{
+    let mut row = row_at(table, from);
+    let mut mask = bits;
+    let mut links: u64 = 1;
+    while has_link(row) {
+        let at = Place::of(row, mask);
+        let lefts = link_counted(table, count, at.below(row, 0));
+        if lefts == 0 {
+            return 0;
         }
-        if key >> bits != self.path {
-            return false;
+        links += lefts;
+        let end = link_end(table, count, at.below(row, 1));
+        match end {
+            End::None => return links,
+            End::Damage => return 0,
+            End::Row(next) => row = next,
         }
-        if bits != 0 {
-            return true;
-        }
-        if row.left != 0 {
-            return false;
-        }
-        row.right == 0
+        mask = mask / 2;
+    }
+    links + 1
+}
+
+// The same below a link. An empty link counts itself.
+fn link_counted(table: &[u32], count: usize, at: Place) -> u64
+    requires room { ⌜ count ≤ capacity (now table) ⌝ }
+    requires place { ⌜ StandsSome at ⌝ }
+    ensures { λ r. ⌜ r ≡ counted (placeTree (rowAt (now (table .entry))) count at) ⌝ }
+{
+    let end = link_end(table, count, at);
+    match end {
+        End::None => 1,
+        End::Damage => 0,
+        End::Row(row) => row_counted(table, count, at.row, at.mask),
     }
 }
 
-// Counts the rows of a row's part off `rest`, as long as there is no damage. Keys strictly rise along the rows that are met before the
-// first damage, so none is met twice; and no more than `rest` are read on any table, one with loops or shared rows too.
-fn row_counted(table: &[u32], count: u32, at: Place, rest: u32) -> Rest
-    requires { ⌜ (count ≤ capacity (now table)) × (at .bits ≤ 32) ⌝ }
-    ensures { λ r. ⌜ r ≡ counted (rowPart (rowAt (now (table .entry))) count at) rest ⌝ }
+// Writes the listing of a row's part to the buffer from `start` on. The result is the place after it.
+fn row_listed(table: &[u32], from: usize, bits: u32, buffer: &mut [u32], start: usize) -> usize
+    requires row { ⌜ Standing (rowAt (now table)) (capacity (now table)) bits from ⌝ }
+    requires part { ⌜ Listable (rowTree (rowAt (now table)) (capacity (now table)) (bitsLeft bits) from) (now buffer) start ⌝ }
+    ensures end { λ r. ⌜ r ≡ start + size (rowTree (rowAt (now (table .entry))) (capacity (now (table .entry))) (bitsLeft bits) from) ⌝ }
+    ensures words { λ _. ⌜ now (buffer .exit) ≡ sets (now (buffer .entry)) start (listing (rowTree (rowAt (now (table .entry))) (capacity (now (table .entry))) (bitsLeft bits) from)) ⌝ }
 {
-    let i = at.row;
-    if rest == 0 {
-        return Rest::Damaged;
+    let mut row = row_at(table, from);
+    let mut mask = bits;
+    let mut next = start;
+    while has_link(row) {
+        buffer[next] = row.entry.key;
+        next = link_listed(table, row.left, mask / 2, buffer, next + 1);
+        if row.right == 0 {
+            return next;
+        }
+        row = row_at(table, row.right as usize);
+        mask = mask / 2;
     }
-    if count <= i {
-        return Rest::Damaged;
-    }
-    let row = row_at(table, i);
-    if !at.holds(row) {
-        return Rest::Damaged;
-    }
-    if at.bits == 0 {
-        return Rest::Rows(rest - 1);
-    }
-    let lefts = side_counted(table, count, at, row, 0, rest - 1);
-    match lefts {
-        Rest::Rows(more) => side_counted(table, count, at, row, 1, more),
-        Rest::Damaged => Rest::Damaged,
-    }
-}
-
-// The same of the part on one side of a row.
-fn side_counted(table: &[u32], count: u32, above: Place, row: Row, side: u32, rest: u32) -> Rest
-    requires { ⌜ (count ≤ capacity (now table)) × (above .bits ≤ 32) × Turns above side ⌝ }
-    ensures { λ r. ⌜ r ≡ counted (sidePart (rowAt (now (table .entry))) count above row (sideOf side)) rest ⌝ }
-{
-    let at = above.below(row, side);
-    if at.row == Header::NONE {
-        return Rest::Rows(rest);
-    }
-    row_counted(table, count, at, rest)
-}
-
-// Writes the listing of a row's part to the buffer from `next` on. The result is the place after it.
-fn row_listed(table: &[u32], count: u32, at: Place, buffer: &mut [u32], next: usize) -> usize
-    requires { ⌜ Listable (now table) count (rowPart (rowAt (now table)) count at) (now buffer) next ⌝ }
-    ensures { λ r. ⌜ r ≡ next + size (rowPart (rowAt (now (table .entry))) count at) ⌝ }
-    ensures { λ _. ⌜ now (buffer .exit) ≡ sets (now (buffer .entry)) next (listing (rowPart (rowAt (now (table .entry))) count at)) ⌝ }
-{
-    let row = row_at(table, at.row);
     buffer[next] = row.entry.key;
-    if at.bits == 0 {
-        return next + 1;
-    }
-    let middle = side_listed(table, count, at, row, 0, buffer, next + 1);
-    side_listed(table, count, at, row, 1, buffer, middle)
+    next + 1
 }
 
-// The same of the part on one side of a row.
-fn side_listed(
-    table: &[u32],
-    count: u32,
-    above: Place,
-    row: Row,
-    side: u32,
-    buffer: &mut [u32],
-    next: usize,
-) -> usize
-    requires { ⌜ Turns above side × Listable (now table) count (sidePart (rowAt (now table)) count above row (sideOf side)) (now buffer) next ⌝ }
-    ensures { λ r. ⌜ r ≡ next + size (sidePart (rowAt (now (table .entry))) count above row (sideOf side)) ⌝ }
-    ensures { λ _. ⌜ now (buffer .exit) ≡ sets (now (buffer .entry)) next (listing (sidePart (rowAt (now (table .entry))) count above row (sideOf side))) ⌝ }
+// The same of the part that a link leads to.
+fn link_listed(table: &[u32], link: u32, mask: u32, buffer: &mut [u32], next: usize) -> usize
+    requires row { ⌜ StandingLink (rowAt (now table)) (capacity (now table)) mask link ⌝ }
+    requires part { ⌜ Listable (linkTree (rowAt (now table)) (capacity (now table)) (bitsLeft mask) link) (now buffer) next ⌝ }
+    ensures end { λ r. ⌜ r ≡ next + size (linkTree (rowAt (now (table .entry))) (capacity (now (table .entry))) (bitsLeft mask) link) ⌝ }
+    ensures words { λ _. ⌜ now (buffer .exit) ≡ sets (now (buffer .entry)) next (listing (linkTree (rowAt (now (table .entry))) (capacity (now (table .entry))) (bitsLeft mask) link)) ⌝ }
 {
-    let at = above.below(row, side);
-    if at.row == Header::NONE {
+    if link == Header::NONE {
         return next;
     }
-    row_listed(table, count, at, buffer, next)
+    row_listed(table, link as usize, mask, buffer, next)
 }
 
-// Three zeros in every row up to capacity. "Words past the last whole row, or past that limit, are never changed."
+// Zeros in every row up to capacity. "Words past the last whole row, or past that limit, are never changed."
 fn clear(table: &mut [u32])
-    ensures { λ _. ⌜ now (table .exit) ≡ replicate (3 * capacity (now (table .entry))) 0 ++ drop (3 * capacity (now (table .entry))) (now (table .entry)) ⌝ }
+    ensures { λ _. ⌜ now (table .exit) ≡ replicate (rowWords * capacity (now (table .entry))) 0 ++ drop (rowWords * capacity (now (table .entry))) (now (table .entry)) ⌝ }
 {
     let words = Header::ROW * (capacity(table) as usize);
     let mut at = 0;
@@ -172,57 +142,36 @@ fn clear(table: &mut [u32])
     }
 }
 
-fn refused(header: Header, answer: Answer) -> Reply
-    ensures { λ r. ⌜ r ≡ refused header answer ⌝ }
-{
-    Reply {
-        header,
-        answer,
-        rows: 0,
-        moved: 0,
-    }
-}
-
-fn done(header: Header, rows: u32) -> Reply
-    ensures { λ r. ⌜ r ≡ answered header Answer.Done rows ⌝ }
-{
-    Reply {
-        header,
-        answer: Answer::Done,
-        rows,
-        moved: 0,
-    }
-}
-
 impl Header {
     // "`new` makes no check but 1; it clears every row and hands back its W with a count of 0."
     pub fn new(self, table: &mut [u32], width: u32) -> Reply
         ensures { λ r. ⌜ (r ≡ newReply self width) × (now (table .exit) ≡ newTable (now (table .entry)) width) ⌝ }
     {
         if width == 0 {
-            return refused(self, Answer::WrongWidth);
+            return self.refused(Answer::WrongWidth);
         }
         if 32 < width {
-            return refused(self, Answer::WrongWidth);
+            return self.refused(Answer::WrongWidth);
         }
         clear(table);
-        done(Header::fresh(width), 0)
+        Header::fresh(width).answered(Answer::Done, 0)
     }
 
     // The whole tree has no damage and as many rows as are in use, so that no row is left to which nothing leads.
     fn is_sound(self, table: &[u32]) -> bool
-        requires { ⌜ wrong-header self (now table) ≡ false ⌝ }
+        requires header { ⌜ wrong-header self (now table) ≡ false ⌝ }
         ensures { λ r. ⌜ r ≡ isSound self (now (table .entry)) ⌝ }
     {
-        let count = self.count;
+        let count = self.count as usize;
         if count == 0 {
             return true;
         }
-        let rest = row_counted(table, count, Place::root(self.width), count);
-        match rest {
-            Rest::Rows(more) => more == 0,
-            Rest::Damaged => false,
+        let root = Place::root(self.width);
+        let end = row_end(table, count, root);
+        if let End::Damage = end {
+            return false;
         }
+        row_counted(table, count, 0, root.mask) == count as u64 + 1
     }
 
     // "`audit` says whether the table is sound."
@@ -230,12 +179,12 @@ impl Header {
         ensures { λ r. ⌜ r ≡ auditReply self (now (table .entry)) ⌝ }
     {
         if self.is_wrong(table) {
-            return refused(self, Answer::WrongHeader);
+            return self.refused(Answer::WrongHeader);
         }
         if !self.is_sound(table) {
-            return refused(self, Answer::Damage);
+            return self.refused(Answer::Damage);
         }
-        done(self, self.count)
+        self.answered(Answer::Done, self.count)
     }
 
     // "`list` writes it to a lent buffer of 32-bit words and leaves the rest of the buffer." All is judged before anything is written.
@@ -244,18 +193,18 @@ impl Header {
     {
         let count = self.count;
         if self.is_wrong(table) {
-            return refused(self, Answer::WrongHeader);
+            return self.refused(Answer::WrongHeader);
         }
         if !self.is_sound(table) {
-            return refused(self, Answer::Damage);
+            return self.refused(Answer::Damage);
         }
         if buffer.len() < count as usize {
-            return refused(self, Answer::ShortBuffer);
+            return self.refused(Answer::ShortBuffer);
         }
         if count == 0 {
-            return done(self, count);
+            return self.answered(Answer::Done, count);
         }
-        row_listed(table, count, Place::root(self.width), buffer, 0);
-        done(self, count)
+        row_listed(table, 0, mask_of(self.width), buffer, 0);
+        self.answered(Answer::Done, count)
     }
 }

@@ -3,32 +3,41 @@
 use crate::Entry;
 use crate::Header;
 use crate::Row;
+use crate::leg::Place;
 ghost use mathlib.Core.Path.{_≡_};
 ghost use mathlib.Core.Bool.{true};
-ghost use Prim.Native.Nat.{_<_};
+ghost use Prim.Native.Nat.{_/_, _%_, _^_, _<_, _≤_};
 ghost use Rattle.ordered.specs.Word.{sideOf};
 ghost use Rattle.pretree.specs.Table.{capacity, withKey, withLink, withRow, hooked};
 
+// The side of the row above to which a place is linked, with so many bits left: 0 is left, 1 is right.
+pub(crate) fn side_of(at: Place, bits: u32) -> u32
+    requires narrow { ⌜ bits ≤ 32 ⌝ }
+    ensures { λ r. ⌜ r ≡ at .path / 2 ^ bits % 2 ⌝ }
+{
+    (((at.path as u64) >> bits) % 2) as u32
+}
+
 // Row i takes an entry, all of it at once.
-pub(crate) fn put_entry(table: &mut [u32], i: u32, entry: Entry)
+pub(crate) fn put_entry(table: &mut [u32], i: usize, entry: Entry)
     requires { ⌜ i < capacity (now table) ⌝ }
     ensures { λ _. ⌜ now (table .exit) ≡ withKey i (entry .key) (now (table .entry)) ⌝ }
 {
-    let at = Header::ROW * (i as usize);
+    let at = Header::ROW * i;
     table[at] = entry.key;
 }
 
 // The link of row i on one side: 0 is left, 1 is right.
-pub(crate) fn put_link(table: &mut [u32], i: u32, side: u64, link: u32)
+pub(crate) fn put_link(table: &mut [u32], i: usize, side: u32, link: u32)
     requires { ⌜ (i < capacity (now table)) × (side < 2) ⌝ }
     ensures { λ _. ⌜ now (table .exit) ≡ withLink i (sideOf side) link (now (table .entry)) ⌝ }
 {
-    let at = Header::ROW * (i as usize) + 1 + (side as usize);
+    let at = Header::ROW * i + 1 + (side as usize);
     table[at] = link;
 }
 
 // The same of the row where a way passed last, if it passed any.
-pub(crate) fn hook(table: &mut [u32], any: bool, i: u32, side: u64, link: u32)
+pub(crate) fn hook(table: &mut [u32], any: bool, i: usize, side: u32, link: u32)
     requires row { ⌜ (any ≡ true → i < capacity (now table)) ⌝ }
     requires side { ⌜ side < 2 ⌝ }
     ensures { λ _. ⌜ now (table .exit) ≡ hooked any i (sideOf side) link (now (table .entry)) ⌝ }
@@ -38,11 +47,11 @@ pub(crate) fn hook(table: &mut [u32], any: bool, i: u32, side: u64, link: u32)
     }
 }
 
-pub(crate) fn put_row(table: &mut [u32], i: u32, row: Row)
+pub(crate) fn put_row(table: &mut [u32], i: usize, row: Row)
     requires { ⌜ i < capacity (now table) ⌝ }
     ensures { λ _. ⌜ now (table .exit) ≡ withRow i row (now (table .entry)) ⌝ }
 {
-    let at = Header::ROW * (i as usize);
+    let at = Header::ROW * i;
     table[at] = row.entry.key;
     table[at + 1] = row.left;
     table[at + 2] = row.right;

@@ -36,15 +36,15 @@ returns-2 c =
     let damage = sym (e .is-sound .ensures) ∙ not-true (e .is-sound .result) (c .before .if2 .taken) in
     simp (right-there (e .before), damage, c .refused2 .ensures)
 
-done-requires : tie.Need-done-requires
-done-requires c κs = search needs
+answered-requires : tie.Need-answered-requires
+answered-requires c κs = search needs
 
 returns-3 : tie.Need-returns-3
 unfolding auditReply
 returns-3 c =
     let e = c .before .before in
     let sound = sym (e .is-sound .ensures) ∙ not-false (e .is-sound .result) (c .before .if2 .left) in
-    simp (right-there (e .before), sound, c .done .ensures)
+    simp (right-there (e .before), sound, c .answered .ensures)
 
 pub audit-spec : {M : Type 1} → statement M
 audit-spec =
@@ -56,5 +56,5 @@ audit-spec =
     is-sound-requires
     refused-requires-2
     returns-2
-    done-requires
+    answered-requires
     returns-3)

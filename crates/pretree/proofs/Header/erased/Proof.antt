@@ -1,88 +1,154 @@
--- Where the way of the word ended.
+-- Damage on the stretch, or what was judged of it.
+use Prim.Native.Nat.{_≤_}
 use mathlib.Core.Path.{_≡_, refl, sym, _∙_}
-use mathlib.Core.Bool.{true, false}
-use Rattle.pretree.specs.Resume.{isDamage, endsAt}
+use native.Mathlib.Nat.{le-trans}
+use native.Mathlib.Omega.{arith}
+use Rattle.pretree.specs.declared.leg.End.the-variants.{Damage}
+use Rattle.pretree.specs.Table.{rowAt}
+use Rattle.pretree.specs.Seek.{bitsLeft}
+use Rattle.pretree.specs.Leg.{rowEnd}
 use Rattle.pretree.proofs.Checks.{right-header}
-use Rattle.pretree.proofs.Erasing.{on-damage, broken-above, not-there}
+use Rattle.pretree.proofs.EndTags.{not-damage}
+use Rattle.pretree.proofs.Erasing.{begun, some-rows, few-bits, falls, damaged-below, judged-stretch, within, on-damage}
 use borrow.Author.Needs.{needs}
 use Rattle.pretree.proofs.Header.erased.Statement.{statement}
 use Rattle.pretree.proofs.Header.erased.Tie as tie
 
-way-of-requires : tie.Need-way-of-requires
-way-of-requires c κs = search needs
+-- where the call began, and the leg of a row's end
+abbrev begin : tie.After-down → tie.Start
+begin c = c .before .before .before .before
 
-ends-at-requires : tie.Need-ends-at-requires
-ends-at-requires c κs = search needs
+abbrev leg-of : tie.After-row-end → tie.After-down
+leg-of c = c .before .before .before
 
-hollowed-requires : tie.Need-hollowed-requires
-hollowed-requires c κs =
-    let start = c .before .before .before .before .before .before in
-    (start .pre .0, (start .pre .1, (c .before .before .before .way-of .ensures, sym (c .before .before .ends-at .ensures) ∙ c .before .if1 .taken)))
+cast-down : tie.Need-cast-down
+cast-down c = search needs
+
+down-requires : tie.Need-down-requires
+down-requires c κs =
+    let start = c .before .before .before in
+    let a = start .args in (
+      right-header (a .self) (a .table .now) (start .pre .0) .has-room,
+      (omega arith, begun (start .pre .0) (start .pre .1 .1)),
+    )
+
+cast-row-end : tie.Need-cast-row-end
+cast-row-end c = search needs
+
+row-end-requires : tie.Need-row-end-requires
+row-end-requires c κs =
+    let start = begin (c .before .before) in
+    right-header (start .args .self) (start .args .table .now) (start .pre .0) .has-room
+
+enum-told : tie.Need-enum-told
+enum-told c = search needs
+
+refused-requires : tie.Need-refused-requires
+refused-requires c κs = search needs
 
 same-length : tie.Need-same-length
 same-length c = search needs
 
 returns : tie.Need-returns
-returns c = c .before .before .hollowed .ensures
+returns c =
+    let end = c .before .before .before in
+    let leg = leg-of end in
+    let start = begin leg in
+    let a = start .args in
+    let broken = damaged-below (start .pre .0) (start .pre .1 .1) (leg .down .ensures)
+    (sym (end .row-end .ensures) ∙ c .before .enum-told .given .1) in
+    let outcome = on-damage (a .self) (a .table .now) _ (start .pre .0) (start .pre .1 .0) broken in
+    rw outcome (c .refused .ensures, refl)
 
-is-damaged-requires : tie.Need-is-damaged-requires
-is-damaged-requires c κs = search needs
+bits-of-requires : tie.Need-bits-of-requires
+bits-of-requires c κs = search needs
 
-refused-requires : tie.Need-refused-requires
-refused-requires c κs = search needs
+bits-of-requires-2 : tie.Need-bits-of-requires-2
+bits-of-requires-2 c κs = search needs
+
+-- the leg ended at a row
+whole : (c : tie.At-match-keys2)
+    → let leg = leg-of (c .before) in
+    let a = begin leg .args in
+    rowEnd (rowAt (a .table .now)) (a .self .count) (leg .down .result .at) ≡ Damage → ⊥
+whole c d = not-damage (c .before .row-end .result) (c .match .keys2) (c .before .row-end .ensures ∙ d)
+
+few : (leg : tie.After-down) → bitsLeft (leg .down .result .at .mask) ≤ begin leg .args .self .width
+few leg =
+    let start = begin leg in
+    few-bits (start .pre .0) (start .pre .1 .1) (leg .down .ensures)
+
+width-few : (leg : tie.After-down) → begin leg .args .self .width ≤ 32
+width-few leg = right-header (begin leg .args .self) (begin leg .args .table .now) (begin leg .pre .0) .at-most-32
+
+sub-steps : tie.Need-sub-steps
+sub-steps c =
+    let there = c .before .before in
+    let leg = leg-of (there .before) in
+    let start = begin leg in
+    rw (c .bits-of2 .ensures, c .before .bits-of .ensures)
+    (falls (start .pre .0) (start .pre .1 .1) (leg .down .ensures) (whole there))
+
+sub-rows : tie.Need-sub-rows
+sub-rows c =
+    let bits = c .before .before in
+    rw (bits .bits-of .ensures) (few (leg-of (bits .before .before)))
+
+add-rows : tie.Need-add-rows
+add-rows c = let small = width-few (leg-of (c .before .before .before .before)) in search needs
+
+hook-of-requires : tie.Need-hook-of-requires
+hook-of-requires c κs =
+    let bits = c .before .before in
+    let leg = leg-of (bits .before .before) in
+    rw (bits .bits-of .ensures) (le-trans (few leg) (width-few leg))
+
+filled-requires : tie.Need-filled-requires
+filled-requires c κs =
+    let hooked = c .before in
+    let bits2 = hooked .before .before in
+    let bits = bits2 .before in
+    let there = bits .before in
+    let leg = leg-of (there .before) in
+    let start = begin leg in
+    rw (hooked .hook-of .ensures, bits2 .bits-of2 .ensures, bits .bits-of .ensures) (
+      start .pre .0,
+      (
+        start .pre .1 .0,
+        (
+          some-rows (start .pre .0) (start .pre .1 .1),
+          (
+            judged-stretch (start .pre .0) (start .pre .1 .1) (leg .down .ensures) (whole there),
+            within (start .pre .0) (start .pre .1 .1) (leg .down .ensures) (whole there),
+          ),
+        ),
+      ),
+    )
 
 same-length-2 : tie.Need-same-length-2
 same-length-2 c = search needs
 
--- the way doesn't end at the word
-absent : (c : tie.Else1)
-    → let w = c .before .before .way-of .result in endsAt (c .before .before .before .before .before .args .word) (w .key) (w .stage) ≡ false
-absent c = sym (c .before .ends-at .ensures) ∙ c .if1 .left
-
 returns-2 : tie.Need-returns-2
-returns-2 c =
-    let start = c .before .before .before .before .before .before .before .before in
-    let a = start .args in
-    let w = c .before .before .before .before .before .way-of in
-    let damaged : isDamage (w .result .stage) ≡ true = sym (c .before .before .is-damaged .ensures) ∙ c .before .if2 .taken in
-    let broken = broken-above (a .self) (a .table .now) (a .word) (start .pre .0) (start .pre .1) (w .result) (w .ensures) (absent (c .before .before .before)) in
-    let outcome = on-damage (a .self) (a .table .now) (a .word) (start .pre .0) (start .pre .1) (broken ∙ damaged) in
-    rw outcome (c .refused .ensures, refl)
-
-rows-requires : tie.Need-rows-requires
-rows-requires c κs =
-    let start = c .before .before .before .before .before .before .before in
-    (c .before .before .before .before .way-of .ensures .walking .fits, right-header (start .args .self) (start .args .table .now) (start .pre .0) .at-most-32)
-
-answered-requires : tie.Need-answered-requires
-answered-requires c κs = search needs
-
-same-length-3 : tie.Need-same-length-3
-same-length-3 c = search needs
-
-returns-3 : tie.Need-returns-3
-returns-3 c =
-    let start = c .before .before .before .before .before .before .before .before .before in
-    let a = start .args in
-    let w = c .before .before .before .before .before .before .way-of in
-    let whole : isDamage (w .result .stage) ≡ false = sym (c .before .before .before .is-damaged .ensures) ∙ c .before .before .if2 .left in
-    let outcome = not-there (a .self) (a .table .now) (a .word) (start .pre .0) (start .pre .1) (w .result) (w .ensures) (absent (c .before .before .before .before)) whole in
-    rw (outcome, ← c .before .rows .ensures) (c .answered .ensures, refl)
+returns-2 c = c .before .before .filled .ensures
 
 pub erased-spec : {M : Type 1} → statement M
 erased-spec =
     tie.close
     (tie.spec
-    way-of-requires
-    ends-at-requires
-    hollowed-requires
+    cast-down
+    down-requires
+    cast-row-end
+    row-end-requires
+    enum-told
+    refused-requires
     same-length
     returns
-    is-damaged-requires
-    refused-requires
+    bits-of-requires
+    bits-of-requires-2
+    sub-steps
+    sub-rows
+    add-rows
+    hook-of-requires
+    filled-requires
     same-length-2
-    returns-2
-    rows-requires
-    answered-requires
-    same-length-3
-    returns-3)
+    returns-2)

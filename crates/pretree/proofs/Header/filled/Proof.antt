@@ -8,6 +8,10 @@ use borrow.Author.Needs.{needs}
 use Rattle.pretree.proofs.Header.filled.Statement.{statement}
 use Rattle.pretree.proofs.Header.filled.Tie as tie
 
+-- where the call began
+abbrev begin : tie.After-move-of → tie.Start
+begin c = c .before .before .before
+
 move-of-requires : tie.Need-move-of-requires
 move-of-requires c κs = search needs
 
@@ -19,30 +23,35 @@ same-length c = search needs
 
 returns : tie.Need-returns
 returns c =
-    let start = c .before .before .before .before .before in
-    let m = c .before .before .move-of in
+    let judged = c .before .before in
+    let start = begin judged in
     let a = start .args in
-    let outcome = on-straying (a .self) (a .table .now) (a .word) (start .pre .0) (start .pre .1 .0) (a .hole) (m .result) (start .pre .1 .1 .1 .0) (m .ensures .0) (c .before .if1 .taken) in
+    let outcome = on-straying (a .self) (a .table .now) _ (start .pre .0) (start .pre .1 .0) (a .hole) (judged .move-of .result) (start .pre .1 .1 .1 .0) (judged .move-of .ensures .0) (c .before .if1 .taken) in
     rw outcome (c .refused .ensures, refl)
 
 sub-last : tie.Need-sub-last
 sub-last c = search needs
 
+cast-shrink : tie.Need-cast-shrink
+cast-shrink c = search needs
+
 shrink-requires : tie.Need-shrink-requires
 shrink-requires c κs =
-    let start = c .before .before .before .before .before .before in
+    let judged = c .before .before .before in
+    let start = begin judged in
     let room = right-header (start .args .self) (start .args .table .now) (start .pre .0) .has-room in
-    (omega (arith, room, start .pre .1 .1 .0), (start .pre .1 .1 .1 .1, c .before .before .before .move-of .ensures .1))
+    (omega (arith, room, start .pre .1 .1 .0), (start .pre .1 .1 .1 .1, judged .move-of .ensures .1))
 
 same-length-2 : tie.Need-same-length-2
 same-length-2 c = search needs
 
 returns-2 : tie.Need-returns-2
 returns-2 c =
-    let start = c .before .before .before .before .before .before .before .before .before in
-    let m = c .before .before .before .before .before .before .move-of in
+    let unbroken = c .before .before .before .before .before in
+    let judged = unbroken .before in
+    let start = begin judged in
     let a = start .args in
-    let outcome = on-done (a .self) (a .table .now) (a .word) (start .pre .0) (start .pre .1 .0) (a .hole) (m .result) (start .pre .1 .1 .1 .0) (m .ensures .0) (c .before .before .before .before .before .if1 .left) in
+    let outcome = on-done (a .self) (a .table .now) _ (start .pre .0) (start .pre .1 .0) (a .hole) (judged .move-of .result) (start .pre .1 .1 .1 .0) (judged .move-of .ensures .0) (unbroken .if1 .left) in
     rw (outcome, ← sub-one) (refl, c .before .before .shrink .ensures)
 
 pub filled-spec : {M : Type 1} → statement M
@@ -54,6 +63,7 @@ filled-spec =
     same-length
     returns
     sub-last
+    cast-shrink
     shrink-requires
     same-length-2
     returns-2)

@@ -1,14 +1,16 @@
--- The header's check, and then the word at which the walk ended.
+-- The header's check, and then the root.
 use mathlib.Core.Path.{_≡_, sym, _∙_}
-use mathlib.Core.Bool.{true, false}
+use mathlib.Core.Bool.{false}
 use Rattle.ordered.specs.Way.{staying}
-use Rattle.pretree.specs.Reply.{wrong-header}
+use Rattle.ordered.specs.Reading.{first}
 use Rattle.pretree.specs.Table.{rowAt}
-use Rattle.pretree.specs.Walk.{started, Fell}
+use Rattle.pretree.specs.Reply.{wrong-header}
+use Rattle.pretree.specs.Walk.{started}
+use Rattle.pretree.specs.Leg.{rootPlace}
 use Rattle.pretree.specs.Find.{firstReply}
 use Rattle.pretree.proofs.Checks.{RightHeader, right-header}
-use Rattle.pretree.proofs.Walking.{root-begun}
-use Rattle.pretree.proofs.Neighbours.{first-at, from-root}
+use Rattle.pretree.proofs.Places.{judges-so}
+use Rattle.pretree.proofs.Found.{root-refused, no-root, from-root, root-stands, row-read}
 use borrow.Author.Needs.{needs}
 use Rattle.pretree.proofs.Header.first.Statement.{statement}
 use Rattle.pretree.proofs.Header.first.Tie as tie
@@ -20,38 +22,54 @@ refused-requires : tie.Need-refused-requires
 refused-requires c κs = search needs
 
 returns : tie.Need-returns
-unfolding firstReply
+unfolding firstReply first
 returns c =
     let a = c .before .before .before .before .args in
-    let wrong : wrong-header (a .self) (a .table .now) ≡ true = sym (c .before .before .is-wrong .ensures) ∙ c .before .if1 .taken in
-    simp (wrong, c .refused .ensures)
+    c .refused .ensures ∙ root-refused (a .self) (a .table .now) staying (sym (c .before .before .is-wrong .ensures) ∙ c .before .if1 .taken)
 
-start-requires : tie.Need-start-requires
-start-requires c κs = search needs
+-- the header is not refused
+fine : (c : tie.Else1) → let a = c .before .before .before .args in wrong-header (a .self) (a .table .now) ≡ false
+fine c = sym (c .before .is-wrong .ensures) ∙ c .if1 .left
 
-stayed-requires : tie.Need-stayed-requires
-stayed-requires c κs =
-    let a = c .before .before .before .before .args in
-    let ok : RightHeader (a .self) (a .table .now) = right-header (a .self) (a .table .now) (sym (c .before .before .is-wrong .ensures) ∙ c .before .if1 .left) in
-    rw (c .start .ensures) (root-begun (a .self) (a .table .now) (ok .at-most-32) (ok .has-room))
+right : (c : tie.Else1) → let a = c .before .before .before .args in RightHeader (a .self) (a .table .now)
+right c =
+    let a = c .before .before .before .args in
+    right-header (a .self) (a .table .now) (fine c)
 
-rows-requires : tie.Need-rows-requires
-rows-requires c κs =
-    let a = c .before .before .before .before .before .args in
-    let ok : RightHeader (a .self) (a .table .now) = right-header (a .self) (a .table .now) (sym (c .before .before .before .is-wrong .ensures) ∙ c .before .before .if1 .left) in
-    let fell : Fell (rowAt (a .table .now)) staying (started (a .self)) (c .stayed .result) = rw (c .before .start .ensures) at (c .stayed .ensures) in
-    (from-root (a .self) (a .table .now) staying (c .stayed .result) fell .walking .fits, ok .at-most-32)
-
-word-at-requires : tie.Need-word-at-requires
-word-at-requires c κs = search needs
+answered-requires : tie.Need-answered-requires
+answered-requires c κs = search needs
 
 returns-2 : tie.Need-returns-2
+unfolding firstReply first
 returns-2 c =
-    let q = c .before .before in
-    let a = q .before .before .before .before .before .args in
-    let fell : Fell (rowAt (a .table .now)) staying (started (a .self)) (q .stayed .result) = rw (q .before .start .ensures) at (q .stayed .ensures) in
-    let gone = first-at (a .self) (a .table .now) (sym (q .before .before .before .is-wrong .ensures) ∙ q .before .before .if1 .left) (q .stayed .result) fell in
-    c .word-at .ensures ∙ rw (c .before .rows .ensures) (sym gone)
+    let e = c .before .before .before in
+    let a = e .before .before .before .args in
+    c .answered .ensures ∙ no-root (a .self) (a .table .now) staying (fine e) (c .before .if2 .taken)
+
+cast-row-end : tie.Need-cast-row-end
+cast-row-end c = search needs
+
+root-requires : tie.Need-root-requires
+root-requires c κs = right (c .before .before .before) .at-most-32
+
+row-end-requires : tie.Need-row-end-requires
+row-end-requires c κs = right (c .before .before .before .before) .has-room
+
+word-by-requires : tie.Need-word-by-requires
+word-by-requires c κs = search needs
+
+returns-3 : tie.Need-returns-3
+unfolding firstReply first
+returns-3 c =
+    let q = c .before .before .before .before in
+    let e = q .before .before in
+    let a = e .before .before .before .args in
+    let h = a .self in
+    let table = a .table .now in
+    c .word-by .ensures
+    ∙ rw (c .before .row-end .ensures, c .before .before .root .ensures)
+    (sym (row-read h 0 (rowAt table) (h .count) (h .width) 0 0 (rootPlace (h .width)) (judges-so (rootPlace (h .width)) (started h) (root-stands h (right e .at-most-32)) (rowAt table 0)))
+    ∙ from-root h table staying (fine e) (q .if2 .left))
 
 pub first-spec : {M : Type 1} → statement M
 first-spec =
@@ -60,8 +78,10 @@ first-spec =
     is-wrong-requires
     refused-requires
     returns
-    start-requires
-    stayed-requires
-    rows-requires
-    word-at-requires
-    returns-2)
+    answered-requires
+    returns-2
+    cast-row-end
+    root-requires
+    row-end-requires
+    word-by-requires
+    returns-3)

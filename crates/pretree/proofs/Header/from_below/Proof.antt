@@ -1,6 +1,6 @@
 -- Case by case.
 use mathlib.Core.Path.{_≡_}
-use Rattle.pretree.specs.declared.gap.Neighbour.the-variants.{At, Nowhere, Unknown}
+use Rattle.pretree.specs.declared.gap.Neighbour.the-variants.{Nowhere, Unknown}
 use borrow.Author.Needs.{needs}
 use Rattle.pretree.proofs.Header.from_below.Statement.{statement}
 use Rattle.pretree.proofs.Header.from_below.Tie as tie

@@ -1,15 +1,16 @@
--- The header's check, and then the word at which the walk ended.
-use mathlib.Core.Path.{_≡_, sym, _∙_}
-use mathlib.Core.Bool.{true, false}
-use Rattle.ordered.specs.Word.{right}
+-- The header's check, and then the greatest word from the root down.
+use mathlib.Core.Path.{_≡_, refl, sym, _∙_}
+use mathlib.Core.Bool.{false}
+use native.Mathlib.Omega.{arith}
+use Rattle.ordered.specs.Word as Words
 use Rattle.ordered.specs.Way.{down}
+use Rattle.ordered.specs.Reading.{last}
 use Rattle.pretree.specs.Reply.{wrong-header}
-use Rattle.pretree.specs.Table.{rowAt}
-use Rattle.pretree.specs.Walk.{started, Fell}
+use Rattle.pretree.specs.Walk.{started}
 use Rattle.pretree.specs.Find.{lastReply}
+use Rattle.pretree.specs.Found.{GreatestFrom}
 use Rattle.pretree.proofs.Checks.{RightHeader, right-header}
-use Rattle.pretree.proofs.Walking.{root-begun}
-use Rattle.pretree.proofs.Neighbours.{last-at, from-root}
+use Rattle.pretree.proofs.Found.{root-refused, no-root, from-root, root-stands}
 use borrow.Author.Needs.{needs}
 use Rattle.pretree.proofs.Header.last.Statement.{statement}
 use Rattle.pretree.proofs.Header.last.Tie as tie
@@ -21,38 +22,50 @@ refused-requires : tie.Need-refused-requires
 refused-requires c κs = search needs
 
 returns : tie.Need-returns
-unfolding lastReply
+unfolding lastReply last
 returns c =
     let a = c .before .before .before .before .args in
-    let wrong : wrong-header (a .self) (a .table .now) ≡ true = sym (c .before .before .is-wrong .ensures) ∙ c .before .if1 .taken in
-    simp (wrong, c .refused .ensures)
+    c .refused .ensures ∙ root-refused (a .self) (a .table .now) (down Words.right) (sym (c .before .before .is-wrong .ensures) ∙ c .before .if1 .taken)
 
-start-requires : tie.Need-start-requires
-start-requires c κs = search needs
+-- the header is not refused
+fine : (c : tie.Else1) → let a = c .before .before .before .args in wrong-header (a .self) (a .table .now) ≡ false
+fine c = sym (c .before .is-wrong .ensures) ∙ c .if1 .left
 
-fallen-requires : tie.Need-fallen-requires
-fallen-requires c κs =
-    let a = c .before .before .before .before .args in
-    let ok : RightHeader (a .self) (a .table .now) = right-header (a .self) (a .table .now) (sym (c .before .before .is-wrong .ensures) ∙ c .before .if1 .left) in
-    rw (c .start .ensures) (root-begun (a .self) (a .table .now) (ok .at-most-32) (ok .has-room))
+right : (c : tie.Else1) → let a = c .before .before .before .args in RightHeader (a .self) (a .table .now)
+right c =
+    let a = c .before .before .before .args in
+    right-header (a .self) (a .table .now) (fine c)
 
-rows-requires : tie.Need-rows-requires
-rows-requires c κs =
-    let a = c .before .before .before .before .before .args in
-    let ok : RightHeader (a .self) (a .table .now) = right-header (a .self) (a .table .now) (sym (c .before .before .before .is-wrong .ensures) ∙ c .before .before .if1 .left) in
-    let fell : Fell (rowAt (a .table .now)) (down right) (started (a .self)) (c .fallen .result) = rw (c .before .start .ensures) at (c .fallen .ensures) in
-    (from-root (a .self) (a .table .now) (down right) (c .fallen .result) fell .walking .fits, ok .at-most-32)
-
-word-at-requires : tie.Need-word-at-requires
-word-at-requires c κs = search needs
+answered-requires : tie.Need-answered-requires
+answered-requires c κs = search needs
 
 returns-2 : tie.Need-returns-2
+unfolding lastReply last
 returns-2 c =
+    let e = c .before .before .before in
+    let a = e .before .before .before .args in
+    c .answered .ensures ∙ no-root (a .self) (a .table .now) (down Words.right) (fine e) (c .before .if2 .taken)
+
+root-requires : tie.Need-root-requires
+root-requires c κs = right (c .before .before) .at-most-32
+
+-- the root is where a walk begins
+begun : (c : tie.After-root) → GreatestFrom (c .before .before .before .before .before .before .args .self) (c .root .result)
+begun c =
+    let e = c .before .before .before in
+    let h = e .before .before .before .args .self in
+    record { walk = started h; stands = rw (c .root .ensures) (root-stands h (right e .at-most-32)); same-count = refl }
+
+greatest-requires : tie.Need-greatest-requires
+greatest-requires c κs = (fine (c .before .before .before), (begun c, omega arith))
+
+returns-3 : tie.Need-returns-3
+unfolding lastReply last begun
+returns-3 c =
     let q = c .before .before in
-    let a = q .before .before .before .before .before .args in
-    let fell : Fell (rowAt (a .table .now)) (down right) (started (a .self)) (q .fallen .result) = rw (q .before .start .ensures) at (q .fallen .ensures) in
-    let gone = last-at (a .self) (a .table .now) (sym (q .before .before .before .is-wrong .ensures) ∙ q .before .before .if1 .left) (q .fallen .result) fell in
-    c .word-at .ensures ∙ rw (c .before .rows .ensures) (sym gone)
+    let e = q .before .before in
+    let a = e .before .before .before .args in
+    c .greatest .ensures (begun (c .before)) ∙ from-root (a .self) (a .table .now) (down Words.right) (fine e) (q .if2 .left)
 
 pub last-spec : {M : Type 1} → statement M
 last-spec =
@@ -61,8 +74,8 @@ last-spec =
     is-wrong-requires
     refused-requires
     returns
-    start-requires
-    fallen-requires
-    rows-requires
-    word-at-requires
-    returns-2)
+    answered-requires
+    returns-2
+    root-requires
+    greatest-requires
+    returns-3)

@@ -5,7 +5,8 @@ use borrow.Author.Needs.{needs}
 use borrow.Author.Tests.{not-true, not-false}
 use Rattle.pretree.specs.Sound.{isSound}
 use Rattle.pretree.specs.Reply.{wrong-header}
-use Rattle.pretree.proofs.Parts.{sound-listable, lists-wrong, lists-damaged, lists-short, lists-none, lists-all}
+use Rattle.pretree.proofs.Checks.{right-header}
+use Rattle.pretree.proofs.WholeTable.{sound-standing, sound-listable, lists-wrong, lists-damaged, lists-short, lists-none, lists-all}
 use Rattle.pretree.proofs.Header.list.Statement.{statement}
 use Rattle.pretree.proofs.Header.list.Tie as tie
 
@@ -55,28 +56,35 @@ returns-3 c =
     let l = lists-short (a .self) (a .table .now) (a .buffer .now) (right-there (e .before .before)) (sound-there e) (c .before .if3 .taken) in
     (c .refused3 .ensures ∙ l .0, l .1)
 
-done-requires : tie.Need-done-requires
-done-requires c κs = search needs
+answered-requires : tie.Need-answered-requires
+answered-requires c κs = search needs
 
 returns-4 : tie.Need-returns-4
 returns-4 c =
     let e = c .before .before .before in
     let a = e .before .before .before .before .before .before .args in
     let l = lists-none (a .self) (a .table .now) (a .buffer .now) (right-there (e .before .before)) (sound-there e) (c .before .before .if3 .left) (c .before .if4 .taken) in
-    (c .done .ensures ∙ l .0, l .1)
+    (c .answered .ensures ∙ l .0, l .1)
 
-root-requires : tie.Need-root-requires
-root-requires c κs = search needs
+mask-of-requires : tie.Need-mask-of-requires
+mask-of-requires c κs =
+    let e = c .before .before in
+    let a = e .before .before .before .before .before .before .args in
+    right-header (a .self) (a .table .now) (right-there (e .before .before)) .at-most-32
 
 row-listed-requires : tie.Need-row-listed-requires
 row-listed-requires c κs =
     let d = c .before .before in
     let e = d .before .before in
     let a = e .before .before .before .before .before .before .args in
-    rw (c .before .root .ensures) (sound-listable (a .self) (a .table .now) (sound-there e) (a .buffer .now) (d .before .if3 .left) (right-there (e .before .before)) (d .if4 .left))
+    let right-so = right-there (e .before .before) in
+    rw (c .before .mask-of .ensures) (
+      sound-standing (a .self) (a .table .now) right-so (d .if4 .left) (sound-there e),
+      sound-listable (a .self) (a .table .now) right-so (d .if4 .left) (sound-there e) (a .buffer .now) (d .before .if3 .left),
+    )
 
-done-requires-2 : tie.Need-done-requires-2
-done-requires-2 c κs = search needs
+answered-requires-2 : tie.Need-answered-requires-2
+answered-requires-2 c κs = search needs
 
 same-length : tie.Need-same-length
 same-length c = search needs
@@ -88,8 +96,8 @@ returns-5 c =
     let e = d .before .before in
     let a = e .before .before .before .before .before .before .args in
     let l = lists-all (a .self) (a .table .now) (a .buffer .now) (right-there (e .before .before)) (sound-there e) (d .before .if3 .left) (d .if4 .left) in
-    let written = rw (g .before .before .root .ensures) at (g .row-listed .ensures .1) in
-    (c .done2 .ensures ∙ l .0, rw written (l .1))
+    let written = rw (g .before .before .mask-of .ensures) at (g .row-listed .ensures .1) in
+    (c .answered2 .ensures ∙ l .0, rw written (l .1))
 
 pub list-spec : {M : Type 1} → statement M
 list-spec =
@@ -104,10 +112,10 @@ list-spec =
     cast-if3
     refused-requires-3
     returns-3
-    done-requires
+    answered-requires
     returns-4
-    root-requires
+    mask-of-requires
     row-listed-requires
-    done-requires-2
+    answered-requires-2
     same-length
     returns-5)

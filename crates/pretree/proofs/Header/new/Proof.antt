@@ -30,8 +30,8 @@ clear-requires c κs = search needs
 fresh-requires : tie.Need-fresh-requires
 fresh-requires c κs = search needs
 
-done-requires : tie.Need-done-requires
-done-requires c κs = search needs
+answered-requires : tie.Need-answered-requires
+answered-requires c κs = search needs
 
 same-length : tie.Need-same-length
 same-length c = search needs
@@ -42,7 +42,7 @@ returns-3 c =
     let e = c .before .before .before .before .before .before in
     let narrow = le-ltb _ _ (e .if2 .left) in
     let some = ne-eqb _ _ (e .before .if1 .left) in
-    (simp (some, narrow, c .done .ensures, c .before .fresh .ensures), simp (some, narrow, c .before .before .before .before .clear .ensures))
+    (simp (some, narrow, c .answered .ensures, c .before .fresh .ensures), simp (some, narrow, c .before .before .before .before .clear .ensures))
 
 pub new-spec : {M : Type 1} → statement M
 new-spec =
@@ -54,6 +54,6 @@ new-spec =
     returns-2
     clear-requires
     fresh-requires
-    done-requires
+    answered-requires
     same-length
     returns-3)

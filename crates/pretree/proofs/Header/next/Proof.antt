@@ -1,12 +1,12 @@
--- The checks of document 01's order, and then the way of the word and what it meets.
+-- The checks of document 01's order, and then the way of the word and what stands past it.
 use mathlib.Core.Path.{_≡_, sym, _∙_}
 use mathlib.Core.Bool.{false}
-use native.Mathlib.Numerals.{add-one}
+use native.Mathlib.Nat.{pos-of-ne-zero}
 use Rattle.pretree.specs.Reply.{wrong-header, too-wide}
 use Rattle.pretree.specs.Find.{nextReply}
 use Rattle.pretree.proofs.Checks.{right-header, chosen, not-refused}
-use Rattle.pretree.proofs.Ended.{few-rows}
-use Rattle.pretree.proofs.Neighbours.{next-at}
+use Rattle.pretree.proofs.NextReply.{next-by-seek, next-of-none, span-few}
+use Rattle.pretree.proofs.Sought.{tail-few, mask-few, tail-less}
 use borrow.Author.Needs.{needs}
 use Rattle.pretree.proofs.Header.next.Statement.{statement}
 use Rattle.pretree.proofs.Header.next.Tie as tie
@@ -29,32 +29,54 @@ fine c =
     let a = c .before .before .before .args in
     not-refused (a .self) (a .table .now) (a .word) (sym (c .before .refuses .ensures) ∙ c .if1 .left)
 
-add-way-of : tie.Need-add-way-of
-add-way-of c = search needs
-
-way-of-requires : tie.Need-way-of-requires
-way-of-requires c κs = fine c .0
-
-rows-requires : tie.Need-rows-requires
-rows-requires c κs =
-    let a = c .before .before .before .before .args in
-    (c .way-of .ensures .walking .fits, right-header (a .self) (a .table .now) (fine (c .before) .0) .at-most-32)
-
-next-at-requires : tie.Need-next-at-requires
-next-at-requires c κs =
-    let q = c .before in
-    let a = q .before .before .before .before .args in
-    let few = few-rows (q .way-of .result) (a .self .width) (right-header (a .self) (a .table .now) (fine (q .before) .0) .at-most-32) in (
-      record { fine = fine (q .before) .0; few = rw (c .rows .ensures) few },
-      rw (q .way-of .ensures .walking .same-count) at (q .way-of .ensures .walking .memory .aside-used),
-    )
+answered-requires : tie.Need-answered-requires
+answered-requires c κs = search needs
 
 returns-2 : tie.Need-returns-2
 returns-2 c =
-    let q = c .before .before in
-    let a = q .before .before .before .before .args in
-    let gone = next-at (a .self) (a .table .now) (a .word) (q .way-of .result) (fine (q .before) .0) (fine (q .before) .1) (rw add-one at (q .way-of .ensures)) in
-    rw (c .next-at .ensures, c .before .rows .ensures) (sym gone)
+    let e = c .before .before .before in
+    let a = e .before .before .before .args in
+    c .answered .ensures ∙ sym (next-of-none (a .self) (a .table .now) (a .word) (fine e .0) (fine e .1) (c .before .if2 .taken))
+
+sought-requires : tie.Need-sought-requires
+sought-requires c κs = (fine (c .before .before) .0, (fine (c .before .before) .1, pos-of-ne-zero (c .if2 .left)))
+
+cast-seek-end : tie.Need-cast-seek-end
+cast-seek-end c = search needs
+
+seek-end-requires : tie.Need-seek-end-requires
+seek-end-requires c κs =
+    let s = c .before in
+    let e = s .before .before .before in
+    let a = e .before .before .before .args in
+    (right-header (a .self) (a .table .now) (fine e .0) .has-room, tail-few (a .table .now) (a .self) (a .word) (fine e .0) (fine e .1) (s .sought .result) (s .sought .ensures))
+
+next-at-requires : tie.Need-next-at-requires
+next-at-requires c κs =
+    let s = c .before .before in
+    let e = s .before .before .before in
+    let a = e .before .before .before .args in
+    let right = right-header (a .self) (a .table .now) (fine e .0) in (
+      right .at-most-32,
+      (
+        right .has-room,
+        (
+          mask-few (a .table .now) (a .self) (a .word) (fine e .0) (fine e .1) (s .sought .result) (s .sought .ensures),
+          (
+            tail-less (a .table .now) (a .self) (a .word) (fine e .0) (fine e .1) (s .sought .result) (s .sought .ensures),
+            span-few (a .self) (a .table .now) (a .word) (fine e .0) (fine e .1) (s .sought .result) (pos-of-ne-zero (s .before .if2 .left)) (s .sought .ensures),
+          ),
+        ),
+      ),
+    )
+
+returns-3 : tie.Need-returns-3
+returns-3 c =
+    let s = c .before .before .before in
+    let e = s .before .before .before in
+    let a = e .before .before .before .args in
+    rw (c .next-at .ensures, c .before .seek-end .ensures)
+    (sym (next-by-seek (a .self) (a .table .now) (a .word) (fine e .0) (fine e .1) (s .sought .result) (pos-of-ne-zero (s .before .if2 .left)) (s .sought .ensures)))
 
 pub next-spec : {M : Type 1} → statement M
 next-spec =
@@ -63,8 +85,10 @@ next-spec =
     refuses-requires
     refusal-requires
     returns
-    add-way-of
-    way-of-requires
-    rows-requires
+    answered-requires
+    returns-2
+    sought-requires
+    cast-seek-end
+    seek-end-requires
     next-at-requires
-    returns-2)
+    returns-3)

@@ -1,9 +1,12 @@
 -- The loop keeps what is still to be taken from the row at hand on what was to be taken at the start; the bits left fall.
-use Prim.Native.Nat.{suc, _+_, _-_, _≤_}
+use Prim.Native.Nat.{suc, _+_, _-_, _/_, _%_, _^_, _≤_}
 use mathlib.Core.Path.{_≡_}
+use mathlib.Core.Logic.{⊎-elim}
 use native.Mathlib.Omega.{arith}
 use borrow.Author.Needs.{needs}
-use Rattle.ordered.specs.Word.{side}
+use Rattle.ordered.specs.Word.{sideOf, side}
+use Rattle.pretree.specs.Table.{link}
+use Rattle.pretree.proofs.Tests.{goes-right}
 use Rattle.pretree.proofs.Pushing.{Pushes, begins-push, next-used, keeps-push, ends-push}
 use Rattle.pretree.proofs.add.push.Statement.{statement}
 use Rattle.pretree.proofs.add.push.Tie as tie
@@ -26,6 +29,13 @@ ready c =
     let more : l .left - a .end ≡ suc (l .left - 1 - a .end) = omega arith in
     rw more at (l .inv .2)
 
+-- the next row is the one to which its own bits send the key
+next-is : (c : tie.Joined1 Inv-loop μ-loop)
+    → let r = c .before .before .row-at .result in
+    let l = c .before .before .before .before .before .loop in
+    c .if1 .next ≡ link r (sideOf (r .entry .key / 2 ^ (l .left - 1) % 2))
+next-is c = ⊎-elim (λ w. rw (w .0 .taken) (w .1)) (λ w. rw (goes-right _ (w .0 .left)) (w .1)) (c .if1 .came)
+
 loop-holds : tie.Need-loop-holds Inv-loop μ-loop
 loop-holds c =
     (search needs, search needs, begins-push _ _ _ _ _ (search needs))
@@ -36,22 +46,12 @@ sub-left c = search needs
 row-at-requires : tie.Need-row-at-requires Inv-loop μ-loop
 row-at-requires c κs = next-used _ _ _ _ _ _ _ _ _ (ready (c .before))
 
-cast-key : tie.Need-cast-key Inv-loop μ-loop
-cast-key c = search needs
-
-cast-link-at : tie.Need-cast-link-at Inv-loop μ-loop
-cast-link-at c = search needs
-
-shr-link-at : tie.Need-shr-link-at Inv-loop μ-loop
-shr-link-at c = search needs
-
-link-at-requires : tie.Need-link-at-requires Inv-loop μ-loop
-link-at-requires c κs =
-    (next-used _ _ _ _ _ _ _ _ _ (ready (c .before .before .before .before)), omega arith)
+shr-if1 : tie.Need-shr-if1 Inv-loop μ-loop
+shr-if1 c = search needs
 
 put-entry-requires : tie.Need-put-entry-requires Inv-loop μ-loop
 put-entry-requires c κs =
-    next-used _ _ _ _ _ _ _ _ _ (ready (c .before .before .before .before .before .before))
+    next-used _ _ _ _ _ _ _ _ _ (ready (c .before .before .before .before .before))
 
 loop-less : tie.Need-loop-less Inv-loop μ-loop
 loop-less c = search needs
@@ -59,15 +59,16 @@ loop-less c = search needs
 loop-again : tie.Need-loop-again Inv-loop μ-loop
 unfolding side
 loop-again c =
-    let q = c .before .before .before .before .before .before .before .before .before .before in
+    let put = c .before .before .before .before in
+    let j = put .before .before in
+    let read = j .before .before in
+    let q = read .before .before in
     let a = q .before .before .before .args in
     let l = q .before .loop in
-    let below : a .end + (l .left - 1 - a .end) ≡ l .left - 1 = omega arith in
-    let linked = c .before .before .before .before .before in (
+    let below : a .end + (l .left - 1 - a .end) ≡ l .left - 1 = omega arith in (
       omega arith,
       omega arith,
-      rw (c .before .before .before .put-entry .ensures, linked .link-at .ensures, linked .before .before .before .row-at .ensures)
-          (rw below at (keeps-push _ _ _ _ _ _ _ _ _ (ready q))),
+      rw (put .put-entry .ensures, next-is j, read .row-at .ensures) (rw below at (keeps-push _ _ _ _ _ _ _ _ _ (ready q))),
     )
 
 same-length : tie.Need-same-length Inv-loop μ-loop
@@ -89,10 +90,7 @@ push-spec =
     loop-holds
     sub-left
     row-at-requires
-    cast-key
-    cast-link-at
-    shr-link-at
-    link-at-requires
+    shr-if1
     put-entry-requires
     loop-less
     loop-again

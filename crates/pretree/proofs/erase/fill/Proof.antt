@@ -1,9 +1,11 @@
 -- By whether anything moves.
 use mathlib.Core.Path.{_≡_}
 use mathlib.Core.Bool.{true, false}
-use Rattle.pretree.specs.Erased.{filled}
-use Rattle.pretree.proofs.Writing.{same-capacity}
+use native.Mathlib.Omega.{arith}
+use mir.Facts.{fits-bits}
 use borrow.Author.Needs.{needs}
+use Rattle.pretree.specs.Erased.{filled}
+use Rattle.pretree.proofs.Writing.{row-words, same-capacity}
 use Rattle.pretree.proofs.erase.fill.Statement.{statement}
 use Rattle.pretree.proofs.erase.fill.Tie as tie
 
@@ -12,6 +14,11 @@ row-at-requires c κs = search needs
 
 put-row-requires : tie.Need-put-row-requires
 put-row-requires c κs = search needs
+
+cast-hook : tie.Need-cast-hook
+cast-hook c =
+    let start = c .before .before .before .before .before .before .before .before .before in
+    fits-bits 32 tt (omega (arith, row-words _ _ (start .pre .0 .0)))
 
 hook-requires : tie.Need-hook-requires
 hook-requires c κs =
@@ -26,8 +33,11 @@ same-length c = search needs
 returns : tie.Need-returns
 unfolding filled
 returns c =
-    let needed : c .before .before .before .before .before .before .before .before .before .before .before .before .args .m .needed ≡ true = search needs in
-    rw (needed, c .before .before .hook .ensures, c .before .before .before .before .before .before .put-row .ensures, c .before .before .before .before .before .before .before .before .row-at .ensures)
+    let hook = c .before .before in
+    let put = hook .before .before .before .before in
+    let read = put .before .before in
+    let needed : read .before .before .before .before .args .m .needed ≡ true = search needs in
+    rw (needed, hook .hook .ensures, put .put-row .ensures, read .row-at .ensures)
 
 returns-2 : tie.Need-returns-2
 unfolding filled
@@ -38,4 +48,11 @@ returns-2 c =
 pub fill-spec : {M : Type 1} → statement M
 fill-spec =
     tie.close
-    (tie.spec row-at-requires put-row-requires hook-requires same-length returns returns-2)
+    (tie.spec
+    row-at-requires
+    put-row-requires
+    cast-hook
+    hook-requires
+    same-length
+    returns
+    returns-2)

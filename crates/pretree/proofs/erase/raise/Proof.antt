@@ -1,6 +1,9 @@
 -- The loop keeps what `Raises` says: what is still to be taken leads to the same table. The number that falls is that of the rows left.
+use mathlib.Core.Path.{_≡_}
+use mathlib.Core.Logic.{⊎-elim}
 use borrow.Author.Needs.{needs}
-use Rattle.pretree.specs.Erased.{raising}
+use borrow.Author.Tests.{eq-eqb, ne-eqb}
+use Rattle.pretree.specs.Erased.{beneath, raising}
 use Rattle.pretree.specs.Add.{taking}
 use Rattle.pretree.proofs.Raising.{Raises, raises-first, raises-more, at-same, at-used, next-used, next-same}
 use Rattle.pretree.proofs.erase.raise.Statement.{statement}
@@ -12,6 +15,10 @@ Inv-loop table₀ from steps at₀ left₀ table at left = Raises table₀ from 
 abbrev μ-loop : tie.MeasureT-loop
 μ-loop table₀ from steps at₀ left₀ table at left = left
 
+-- "by left link, else right link"
+below-is : (c : tie.Joined1 Inv-loop μ-loop) → c .if1 .below ≡ beneath (c .before .before .row-at .result)
+below-is c = ⊎-elim (λ w. simp (ne-eqb _ _ (w .0 .taken)) (w .1)) (λ w. simp (eq-eqb _ _ (w .0 .left)) (w .1)) (c .if1 .came)
+
 loop-holds : tie.Need-loop-holds Inv-loop μ-loop
 loop-holds c = raises-first _ _ _ (c .before .pre)
 
@@ -19,19 +26,18 @@ row-at-requires : tie.Need-row-at-requires Inv-loop μ-loop
 row-at-requires c κs =
     at-used _ _ _ _ _ _ (c .before .loop-test .taken) (c .before .before .loop .inv)
 
-beneath-requires : tie.Need-beneath-requires Inv-loop μ-loop
-beneath-requires c κs = search needs
-
 row-at-requires-2 : tie.Need-row-at-requires-2 Inv-loop μ-loop
 row-at-requires-2 c κs =
-    let p = c .before .before .before .before in
+    let j = c .before .before in
+    let read = j .before .before in
+    let p = read .before .before in
     let l = p .before .loop in
-    rw (c .before .beneath .ensures, c .before .before .row-at .ensures, at-same _ _ _ _ _ _ (p .loop-test .taken) (l .inv))
+    rw (below-is j, read .row-at .ensures, at-same _ _ _ _ _ _ (p .loop-test .taken) (l .inv))
     (next-used _ _ _ _ _ _ (p .loop-test .taken) (l .inv))
 
 put-entry-requires : tie.Need-put-entry-requires Inv-loop μ-loop
 put-entry-requires c κs =
-    let p = c .before .before .before .before .before .before in
+    let p = c .before .before .before .before .before .before .before .before in
     at-used _ _ _ _ _ _ (p .loop-test .taken) (p .before .loop .inv)
 
 sub-left : tie.Need-sub-left Inv-loop μ-loop
@@ -42,14 +48,17 @@ loop-less c = search needs
 
 loop-again : tie.Need-loop-again Inv-loop μ-loop
 loop-again c =
-    let q = c .before .before in
-    let p = q .before .before .before .before .before .before .before in
+    let put = c .before .before in
+    let next = put .before .before in
+    let j = next .before .before .before in
+    let read = j .before .before in
+    let p = read .before .before in
     let l = p .before .loop in
     rw (
-      q .put-entry .ensures,
-      q .before .before .row-at2 .ensures,
-      q .before .before .before .before .beneath .ensures,
-      q .before .before .before .before .before .row-at .ensures,
+      put .put-entry .ensures,
+      next .row-at2 .ensures,
+      below-is j,
+      read .row-at .ensures,
       at-same _ _ _ _ _ _ (p .loop-test .taken) (l .inv),
       next-same _ _ _ _ _ _ (p .loop-test .taken) (l .inv),
     )
@@ -71,7 +80,6 @@ raise-spec =
     μ-loop
     loop-holds
     row-at-requires
-    beneath-requires
     row-at-requires-2
     put-entry-requires
     sub-left

@@ -1,52 +1,42 @@
-use borrow.Author.Needs.{needs}
-use native.Mathlib.Omega.{arith}
+-- Row i is below the capacity, so its words are in the table.
 use mathlib.Core.Path.{refl}
-use Rattle.pretree.specs.Table.{capacity, rowAt}
+use native.Mathlib.Omega.{arith}
+use mir.Facts.{fits-bits}
+use Rattle.pretree.specs.Table.{rowAt}
+use Rattle.pretree.proofs.Writing.{RowWords, row-words}
 use Rattle.pretree.proofs.table.row_at.Statement.{statement}
 use Rattle.pretree.proofs.table.row_at.Tie as tie
-use Rattle.pretree.proofs.table.row_at.Reads as reads
-use Rattle.pretree.proofs.table.row_at.Lts as lts
 
--- src/table.rt:15:14
+words : (c : tie.Start) → RowWords (c .args .table .now) (c .args .i)
+words c = row-words _ _ (c .pre)
+
 mul-at : tie.Need-mul-at
-mul-at c = search needs
+mul-at c = fits-bits 64 tt (omega (arith, words c))
 
--- src/table.rt:17:29
 mul-t4 : tie.Need-mul-t4
-mul-t4 c = search needs
+mul-t4 c = fits-bits 64 tt (omega (arith, words c))
 
--- src/table.rt:17:29
 shared-slice-read-t6 : tie.Need-shared-slice-read-t6
-unfolding capacity
-shared-slice-read-t6 c = omega arith
+shared-slice-read-t6 c = omega (arith, words (c .before))
 
--- src/table.rt:18:21
 add-t8 : tie.Need-add-t8
-add-t8 c = search needs
+add-t8 c = fits-bits 64 tt (omega (arith, words (c .before)))
 
--- src/table.rt:18:15
 mul-t9 : tie.Need-mul-t9
-mul-t9 c = search needs
+mul-t9 c = fits-bits 64 tt (omega (arith, words (c .before)))
 
--- src/table.rt:18:15
 shared-slice-read-t11 : tie.Need-shared-slice-read-t11
-unfolding capacity
-shared-slice-read-t11 c = omega arith
+shared-slice-read-t11 c = omega (arith, words (c .before .before))
 
--- src/table.rt:19:22
 add-t12 : tie.Need-add-t12
-add-t12 c = search needs
+add-t12 c = fits-bits 64 tt (omega (arith, words (c .before .before)))
 
--- src/table.rt:19:16
 mul-t13 : tie.Need-mul-t13
-mul-t13 c = search needs
+mul-t13 c = fits-bits 64 tt (omega (arith, words (c .before .before)))
 
--- src/table.rt:19:16
 shared-slice-read-t15 : tie.Need-shared-slice-read-t15
-unfolding capacity
-shared-slice-read-t15 c = omega arith
+shared-slice-read-t15 c = omega (arith, words (c .before .before .before))
 
--- src/table.rt:11:1
 returns : tie.Need-returns
 unfolding rowAt
 returns c = refl

@@ -1,20 +1,24 @@
 -- Row i is below the capacity, so its words are in the table.
-use native.Mathlib.Omega.{arith}
 use mathlib.Core.Path.{refl}
-use Rattle.pretree.specs.Table.{capacity, withKey}
+use native.Mathlib.Omega.{arith}
+use mir.Facts.{fits-bits}
 use borrow.Author.Needs.{needs}
+use Rattle.pretree.specs.Table.{withKey}
+use Rattle.pretree.proofs.Writing.{RowWords, row-words}
 use Rattle.pretree.proofs.write.put_entry.Statement.{statement}
 use Rattle.pretree.proofs.write.put_entry.Tie as tie
 
+words : (c : tie.Start) → RowWords (c .args .table .now) (c .args .i)
+words c = row-words _ _ (c .pre)
+
 mul-at : tie.Need-mul-at
-mul-at c = search needs
+mul-at c = fits-bits 64 tt (omega (arith, words c))
 
 mul-table : tie.Need-mul-table
-mul-table c = search needs
+mul-table c = fits-bits 64 tt (omega (arith, words c))
 
 slice-write-table : tie.Need-slice-write-table
-unfolding capacity
-slice-write-table c = omega arith
+slice-write-table c = omega (arith, words c)
 
 same-length : tie.Need-same-length
 same-length c = search needs

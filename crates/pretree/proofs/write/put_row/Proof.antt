@@ -1,42 +1,43 @@
 -- Row i is below the capacity, so its words are in the table.
-use native.Mathlib.Omega.{arith}
 use Prim.Native.Nat.{ℕ, suc, _+_, _*_}
 use mathlib.Core.Path.{_≡_}
+use native.Mathlib.Omega.{arith}
 use lib.ListN.{length-set}
-use Rattle.pretree.specs.Table.{capacity, withRow}
-use borrow.Author.Needs.{needs}
+use mir.Facts.{fits-bits}
+use Rattle.pretree.specs.Table.{withRow}
+use Rattle.pretree.proofs.Writing.{RowWords, row-words}
 use Rattle.pretree.proofs.write.put_row.Statement.{statement}
 use Rattle.pretree.proofs.write.put_row.Tie as tie
 
+words : (c : tie.Start) → RowWords (c .args .table .now) (c .args .i)
+words c = row-words _ _ (c .pre)
+
 mul-at : tie.Need-mul-at
-mul-at c = search needs
+mul-at c = fits-bits 64 tt (omega (arith, words c))
 
 mul-table : tie.Need-mul-table
-mul-table c = search needs
+mul-table c = fits-bits 64 tt (omega (arith, words c))
 
 slice-write-table : tie.Need-slice-write-table
-unfolding capacity
-slice-write-table c = omega arith
+slice-write-table c = omega (arith, words c)
 
 add-table : tie.Need-add-table
-add-table c = search needs
+add-table c = fits-bits 64 tt (omega (arith, words c))
 
 mul-table-2 : tie.Need-mul-table-2
-mul-table-2 c = search needs
+mul-table-2 c = fits-bits 64 tt (omega (arith, words c))
 
 slice-write-table-2 : tie.Need-slice-write-table-2
-unfolding capacity
-slice-write-table-2 c = simp length-set (omega arith)
+slice-write-table-2 c = simp length-set (omega (arith, words c))
 
 add-table-2 : tie.Need-add-table-2
-add-table-2 c = search needs
+add-table-2 c = fits-bits 64 tt (omega (arith, words c))
 
 mul-table-3 : tie.Need-mul-table-3
-mul-table-3 c = search needs
+mul-table-3 c = fits-bits 64 tt (omega (arith, words c))
 
 slice-write-table-3 : tie.Need-slice-write-table-3
-unfolding capacity
-slice-write-table-3 c = simp length-set (omega arith)
+slice-write-table-3 c = simp length-set (omega (arith, words c))
 
 same-length : tie.Need-same-length
 same-length c = simp length-set

@@ -1,0 +1,138 @@
+-- The leg of `src/seek.rt` that follows a word's bits, by its own numbers; and the walk of the word's way that it stands for.
+use Prim.Native.Nat.{ℕ, suc, _+_, _*_, _-_, _/_, _%_, _^_, _<_}
+use mathlib.Core.Path.{_≡_}
+use mathlib.Core.Bool.{Bool, true, false, not, _&&_}
+use lib.Bits.{bitAnd}
+use lib.Count.{leadingZeros}
+use lib.Dec.{ltb, eqb}
+use Rattle.ordered.specs.Such.{if_then_else_}
+use Rattle.ordered.specs.Word.{sideOf}
+use Rattle.ordered.specs.Tree.{Tree}
+use Rattle.pretree.specs.declared.Header.{Header}
+use Rattle.pretree.specs.declared.Row as Rows
+use Rattle.pretree.specs.declared.leg.End.{End}
+use Rattle.pretree.specs.declared.leg.End.the-variants.{None, Row, Damage}
+use Rattle.pretree.specs.declared.leg.Place.{Place}
+use Rattle.pretree.specs.declared.seek.Seek.{Seek}
+use Rattle.pretree.specs.Table.{rowWords, link}
+use Rattle.pretree.specs.Leg.{EndsSo}
+use Rattle.pretree.specs.Walk.{Walk, Stage, On, AtNone, AtRow, AtDamage, stageAt, seeking, Walking, Walked}
+
+abbrev pub bitsLeft : ℕ → ℕ
+bitsLeft mask = 32 - leadingZeros 32 mask
+
+abbrev pub begun : ℕ → ℕ → Seek
+begun width k =
+    record { row = 0; at = 0; mask = 2 ^ width - 1; tail = k; between = k; above = 0; aside = 0; span = 0 }
+
+-- the words between the key and the word k are fewer than those between the key above and k, and fewer than k's last bits say
+abbrev pub passes : Seek → ℕ → ℕ → Bool
+passes s k key = ltb key k && (ltb (k - 1 - key) (s .between) && ltb (k - 1 - key) (s .tail))
+
+abbrev pub turn : Seek → ℕ
+turn s = if ltb (s .mask / 2) (s .tail) then 1 else 0
+
+-- one row further down, by the link l; the row's right link is left aside on a turn to the left
+abbrev pub stepped : Seek → ℕ → ℕ → Seek
+stepped s l r =
+    let leaves : Bool = not (ltb (s .mask / 2) (s .tail)) && not (eqb r 0) in
+    record {
+      row = l;
+      at = rowWords * l;
+      mask = s .mask / 2;
+      tail = bitAnd (s .tail) (s .mask / 2);
+      between = s .between;
+      above = s .row;
+      aside = if leaves then r else s .aside;
+      span = if leaves then s .mask / 2 else s .span;
+    }
+
+-- past a row with that key
+abbrev pub passed : Seek → ℕ → ℕ → ℕ → ℕ → Seek
+passed s k key l r =
+    let t : Seek = stepped s l r in
+    record {
+      row = t .row;
+      at = t .at;
+      mask = t .mask;
+      tail = t .tail;
+      between = k - 1 - key;
+      above = t .above;
+      aside = t .aside;
+      span = t .span;
+    }
+
+-- whether the row that it wants is in use and is passed
+abbrev pub goesOn : (ℕ → Rows.Row) → ℕ → ℕ → Seek → Bool
+goesOn rows count k s = ltb (s .row) count && passes s k (rows (s .row) .entry .key)
+
+-- past that row, by the link to the side that it turns
+abbrev pub gone : (ℕ → Rows.Row) → ℕ → Seek → Seek
+gone rows k s = passed s k (rows (s .row) .entry .key) (link (rows (s .row)) (sideOf (turn s))) (rows (s .row) .right)
+
+-- where the way of k ends, at a row that it does not pass; a link of 0 led it to the root again
+abbrev pub endOf : Seek → ℕ → Rows.Row → End
+endOf s k r =
+    if ltb (r .entry .key) k then (if eqb (s .row) 0 && not (eqb (s .between) k) then None else Damage)
+    else if ltb k (r .entry .key) then (if ltb (s .mask - s .tail) (r .entry .key - k) then Damage else Row r)
+    else if eqb (s .mask) 0 && not (eqb (r .left) 0 && eqb (r .right) 0) then Damage
+    else Row r
+
+-- and where its link leads past the rows in use
+abbrev pub endAt : (ℕ → Rows.Row) → ℕ → ℕ → Seek → End
+endAt rows count k s = if ltb (s .row) count then endOf s k (rows (s .row)) else Damage
+
+-- where the row that it wants stands
+abbrev pub placeOf : Seek → ℕ → Place
+placeOf s k = record { row = s .row; mask = s .mask; path = k - s .tail; low = k - s .between }
+
+-- the right link that a walk left aside, if it did so, and the bits left below it as ones
+abbrev pub asideOf : (ℕ → Rows.Row) → Bool → ℕ → ℕ
+asideOf rows true i = rows i .right
+asideOf rows false i = 0
+
+abbrev pub spanOf : Bool → ℕ → ℕ
+spanOf true m = 2 ^ m - 1
+spanOf false m = 0
+
+-- the walk w of the way of k is where the seek s is
+pub record Shows (rows : ℕ → Rows.Row) (k : ℕ) (s : Seek) (w : Walk) : Type 0 where
+  pub row : s .row ≡ w .row
+  pub at : s .at ≡ rowWords * s .row
+  pub mask : s .mask ≡ 2 ^ w .bits - 1
+  pub tail : s .tail ≡ k % 2 ^ w .bits
+  pub between : s .between + w .low ≡ k
+  pub path : w .path ≡ k / 2 ^ w .bits
+  -- what it remembers
+  pub above : s .above ≡ w .above
+  pub aside : s .aside ≡ asideOf rows (w .any) (w .aside)
+  pub span : s .span ≡ spanOf (w .any) (w .beneath)
+  -- it has not left the root, or a link led it here; the root's key is less than any that it may pass now
+  pub stage : w .stage ≡ (if eqb (w .low) 0 then On else stageAt (w .count) (w .row))
+  pub at-root : w .low ≡ 0 → w .row ≡ 0
+  pub from-root : 0 < w .low → rows 0 .entry .key < w .low
+
+-- there is such a walk, on the way from a tree
+pub record OnSeek (rows : ℕ → Rows.Row) (h : Header) (tree : Tree) (k : ℕ) (s : Seek) : Type 0 where
+  pub walk : Walk
+  pub walking : Walking rows (seeking k k) (h .width) (h .count) tree walk
+  pub shows : Shows rows k s walk
+
+-- and the seek goes no further: the link leads past the rows in use, or its row is not passed
+pub record Sought (rows : ℕ → Rows.Row) (h : Header) (tree : Tree) (k : ℕ) (s : Seek) : Type 0 where
+  pub on : OnSeek rows h tree k s
+  pub stopped : goesOn rows (h .count) k s ≡ false
+
+-- the walk that has gone the whole way of k, where the seek s ended so
+pub record SeekEnds (rows : ℕ → Rows.Row) (h : Header) (tree : Tree) (k : ℕ) (s : Seek) (e : End) : Type 0 where
+  pub walk : Walk
+  pub walked : Walked rows (seeking k k) (h .width) (h .count) tree walk
+  pub ends : EndsSo rows walk e
+  pub row : s .row ≡ walk .row
+  pub mask : s .mask ≡ 2 ^ walk .bits - 1
+  pub tail : s .tail ≡ k % 2 ^ walk .bits
+  pub between : s .between + walk .low ≡ k
+  pub path : walk .path ≡ k / 2 ^ walk .bits
+  pub above : s .above ≡ walk .above
+  pub aside : s .aside ≡ asideOf rows (walk .any) (walk .aside)
+  pub span : s .span ≡ spanOf (walk .any) (walk .beneath)
