@@ -171,7 +171,9 @@ impl Header {
         if let End::Damage = end {
             return false;
         }
-        row_counted(table, count, 0, root.mask) == count as u64 + 1
+        let links = row_counted(table, count, 0, root.mask);
+        let all = count as u64 + 1;
+        links == all
     }
 
     // "`audit` says whether the table is sound."

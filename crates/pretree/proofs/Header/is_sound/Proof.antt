@@ -74,8 +74,8 @@ row-counted-requires c κs =
       rw (e .before .root .ensures) (root-standing (s .args .self) (s .args .table .now) (s .pre) (e .before .before .if1 .left) (whole c)),
     )
 
-add-result : tie.Need-add-result
-add-result c =
+add-all : tie.Need-add-all
+add-all c =
     let s = begin (c .before .before) in
     fits-bits 64 tt (omega (arith, few-rows (s .args .self) (s .args .table .now) (s .pre)))
 
@@ -99,5 +99,5 @@ is-sound-spec =
     enum-told
     returns-2
     row-counted-requires
-    add-result
+    add-all
     returns-3)

@@ -18,7 +18,7 @@ put-row-requires c κs = search needs
 cast-hook : tie.Need-cast-hook
 cast-hook c =
     let start = c .before .before .before .before .before .before .before .before .before in
-    fits-bits 32 tt (omega (arith, row-words _ _ (start .pre .0 .0)))
+    fits-bits 32 tt (omega (arith, row-words _ _ (start .pre .0 .0), row-words _ _ (start .pre .0 .1)))
 
 hook-requires : tie.Need-hook-requires
 hook-requires c κs =
