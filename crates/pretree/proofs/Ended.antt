@@ -1,7 +1,7 @@
 -- What a walk that has ended tells of its way: where the way ends, how many rows it has, and the rows that it remembers.
 use Prim.Native.Nat.{ℕ, _+_, _-_, _%_, _≤_}
 use mathlib.Core.Path.{_≡_, refl, sym, _∙_}
-use mathlib.Core.Bool.{true, false, true≢false}
+use mathlib.Core.Bool.{false, true≢false}
 use native.Mathlib.Nat.{zero-add}
 use native.Mathlib.Omega.{arith}
 use lib.Dec.{ltb}
@@ -26,10 +26,6 @@ one-more On = omega arith
 one-more AtNone = omega arith
 one-more AtRow = omega arith
 one-more AtDamage = omega arith
-
--- so a walk has read at most one row more than the bits it began with
-pub few-rows : (w : Walk) (width : ℕ) → width ≤ 32 → rowsRead w width ≤ 33
-few-rows w width h = omega (arith, one-more (w .stage))
 
 -- the part at which a walk ended
 abbrev pub endsIn : (ℕ → Row) → Walk → Stage → Tree

@@ -3,7 +3,6 @@
 use Prim.Native.Nat.{ℕ, zero, suc, pred, _+_, _*_, _-_, _/_, _%_, _^_, _≤_, _<_}
 use mathlib.Core.Path.{_≡_}
 use mathlib.Core.Bool.{Bool, true, false, not, _&&_}
-use mathlib.Core.List.{List, [], _∷_}
 use lib.Dec.{ltb, leb, eqb}
 use lib.ListN.{length}
 use Rattle.ordered.specs.Such.{if_then_else_, Perhaps, no-such, such, first-of, last-such, anything}
@@ -13,8 +12,8 @@ use Rattle.ordered.specs.Way.{Way, Step, Rule, Turn, way, ending, stop, to}
 use Rattle.ordered.specs.Reading.{right-left-aside}
 use Rattle.pretree.specs.declared.Header.{Header}
 use Rattle.pretree.specs.declared.Row.{Row}
-use Rattle.pretree.specs.Table.{capacity, rowAt, link}
-use Rattle.pretree.specs.Unfold.{ends-there, linked, unfolded, shown}
+use Rattle.pretree.specs.Table.{link}
+use Rattle.pretree.specs.Unfold.{ends-there, linked, unfolded}
 
 -- where a walk is: at a row that it wants to read, or at its end, which is an empty link, a row or damage
 pub data Stage : Type 0 where
@@ -239,26 +238,6 @@ seekTurn limit k key bits =
     if eqb bits 0 then stop
     else if leb limit key then stop
     else to (side (pred bits) k)
-
--- a walk that may begin in this table: what it wants stands there
-pub record Begun (table : List ℕ) (w : Walk) : Type 0 where
-  pub few-bits : w .bits ≤ 32
-  pub has-room : w .count ≤ capacity table
-  pub placed : Placed (rowAt table) w (w .stage)
-  pub fresh : w .any ≡ false
-  pub not-ended : w .stage ≡ AtRow → ⊥
-
--- the tree at which a walk stands
-abbrev pub standing : (ℕ → Row) → Walk → Stage → Tree
-standing rows w On = treeAt rows w
-standing rows w AtNone = none
-standing rows w AtRow = treeAt rows w
-standing rows w AtDamage = damaged
-
--- the walk w went on as r, all the way by the rule f from where it stood; if it passed no row it remembers what it did
-pub record Fell (rows : ℕ → Row) (f : Rule) (w r : Walk) : Type 0 where
-  pub walked : Walked rows f (w .bits) (w .count) (standing rows w (w .stage)) r
-  pub unmoved : r .bits ≡ w .bits → (r .above ≡ w .above) × (r .path ≡ w .path)
 
 -- the link on the side s first, else the other
 abbrev pub downTurn : Side → Row → Turn
