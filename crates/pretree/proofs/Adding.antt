@@ -37,7 +37,7 @@ use Rattle.pretree.proofs.Checks.{right-header}
 use Rattle.pretree.proofs.Walking.{at-none, at-damage, begins-root}
 use Rattle.pretree.proofs.Seeking.{following-is}
 use Rattle.pretree.proofs.Sought as Sought
-use Rattle.pretree.proofs.Found.{bits-there, root-stands}
+use Rattle.pretree.proofs.Places.{bits-there, root-stands}
 use Rattle.pretree.proofs.Ended.{endPart, all-gone, rows-gone}
 use Rattle.pretree.proofs.Resuming.{resumes, Told, told, rows-used, shown-used}
 use Rattle.pretree.proofs.Pushing.{rises-within, Pushed, none-pushed, is-pushed, no-end-row}

@@ -11,7 +11,7 @@ use lib.Dec.{ltb, leb, eqb}
 use lib.Pow.{split, pow-pos, suc-ones, ones-lt, ones-split, mod-pow-add, mod-mod-pow}
 use borrow.Author.Tests.{lt-ltb, le-ltb, le-leb, lt-leb, eq-eqb, ne-eqb, ltb-true, ltb-false, eqb-true, eqb-false}
 use Rattle.ordered.specs.Such.{if_then_else_}
-use Rattle.ordered.specs.Word.{Side, left, right, bitOf, side}
+use Rattle.ordered.specs.Word.{Side, left, right, sideOf, bitOf, side}
 use Rattle.ordered.proofs.Bits.{next-bit}
 use Rattle.pretree.specs.Seek.{bitsLeft}
 
@@ -51,6 +51,10 @@ module _ (k key b : ℕ) where
       let whole : k / 2 ^ b * 2 ^ b + k % 2 ^ b ≡ k = split k b in
       let to : key < k / 2 ^ b * 2 ^ b + 2 ^ b = in-part e .1 in
       omega arith
+
+pub side-of-bit : (s : Side) → sideOf (bitOf s) ≡ s
+side-of-bit left = refl
+side-of-bit right = refl
 
 -- half a mask has one bit less
 pub half-mask : (m : ℕ) → (2 ^ suc m - 1) / 2 ≡ 2 ^ m - 1

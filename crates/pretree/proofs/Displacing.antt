@@ -24,8 +24,7 @@ use Rattle.pretree.specs.Leg.{linkEnd, EndsSo, Stands, OnLeg, GoesOn, pa
 use Rattle.pretree.specs.Seek.{bitsLeft}
 use Rattle.pretree.specs.Add.{addOutcome}
 use Rattle.pretree.specs.Push.{endBits, endSide, Growable, grownOutcome, Displaces}
-use Rattle.pretree.proofs.Places.{inner}
-use Rattle.pretree.proofs.Found.{bits-there}
+use Rattle.pretree.proofs.Places.{inner, bits-there}
 use Rattle.pretree.proofs.Legs.{legPast, goes-past, own-turn, push-ends}
 use Rattle.pretree.proofs.Adding.{not-at-row, damage-outcome, growable, grown-outcome}
 

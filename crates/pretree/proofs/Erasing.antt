@@ -40,9 +40,9 @@ use Rattle.pretree.specs.Add.{taking, hooking}
 use Rattle.pretree.specs.Del.{secondWay, astray, moving, shrunk, delOutcome}
 use Rattle.pretree.specs.Resume.{isDamage, endsAt, again, resumed, Going}
 use Rattle.pretree.specs.Erased.{RowOfKey, hookOf, hookedAt, SameHook, Hangs, raising, JudgedStretch, JudgedMove, noLink, Within, filled, emptied}
+use Rattle.pretree.proofs.Places.{bits-there}
 use Rattle.pretree.proofs.Unfolding.{is-row}
 use Rattle.pretree.proofs.Walking.{at-none}
-use Rattle.pretree.proofs.Between.{bits-are}
 use Rattle.pretree.proofs.Ended.{endPart, Gone, all-gone, rows-gone}
 use Rattle.pretree.proofs.Seeking.{following-is}
 use Rattle.pretree.proofs.Resuming.{resumes, Told, told, rows-used, shown-used}
@@ -52,17 +52,13 @@ use Rattle.pretree.proofs.Adding.{hooks, there, in-table}
 use Rattle.pretree.proofs.Raising.{Stretch, stretch}
 use Rattle.pretree.proofs.EndKeys.{no-such-end}
 
--- the bits left at a place are those of the walk there
-bits-stand : (p : Place) (w : Walk) → Stands p w → bitsLeft (p .mask) ≡ w .bits
-bits-stand p w st = rw (st .mask) (bits-are (w .bits) (st .few))
-
 -- where the end of a walk is linked, from a root with so many bits left
 abbrev hookAt : Walk → ℕ → Hook
 hookAt w width = record { linked = ltb (w .bits) width; above = w .above; side = w .path % 2 }
 
 -- the numbers of its place say so: the side is the last bit of the path
 hook-is : (p : Place) (w : Walk) (above width : ℕ) → Stands p w → above ≡ w .above → hookOf p (bitsLeft (p .mask)) width above ≡ hookAt w width
-hook-is p w above width st a = rw (bits-stand p w st, st .path, shl-shr (w .path) (w .bits), a)
+hook-is p w above width st a = rw (bits-there p w st, st .path, shl-shr (w .path) (w .bits), a)
 
 -- the way of a word was sought, and ended so
 pub record SeekDone (h : Header) (table : List ℕ) (k : ℕ) (s : Seek) (end : End) : Type 0 where
@@ -80,15 +76,15 @@ module _ {h : Header} {table : List ℕ} {k : ℕ} {s : Seek} {end : End} (q : S
   stands-there : Stands (placeOf s k) (q .ends .walk)
   stands-there = place-stands table h k (q .fine) (q .small) s end (q .ends)
 
-  bits-there : bitsLeft (s .mask) ≡ q .ends .walk .bits
-  bits-there = bits-stand (placeOf s k) (q .ends .walk) stands-there
+  bits-left : bitsLeft (s .mask) ≡ q .ends .walk .bits
+  bits-left = bits-there (placeOf s k) (q .ends .walk) stands-there
 
   hook-there : hookOf (placeOf s k) (bitsLeft (s .mask)) (h .width) (s .above) ≡ hookAt (q .ends .walk) (h .width)
   hook-there = hook-is (placeOf s k) (q .ends .walk) (s .above) (h .width) stands-there (q .ends .above)
 
 -- so fewer bits are left at the place further down
 fewer : (p q : Place) (w v : Walk) → Stands p w → Stands q v → v .bits ≤ w .bits → bitsLeft (q .mask) ≤ bitsLeft (p .mask)
-fewer p q w v at-w at-v h = rw (bits-stand p w at-w, bits-stand q v at-v) h
+fewer p q w v at-w at-v h = rw (bits-there p w at-w, bits-there q v at-v) h
 
 -- the stretch from one walk's row to another's, and the same by the numbers of the leg
 abbrev holeAt : Walk → Walk → ℕ → Hole
@@ -107,7 +103,7 @@ holeOf at r width =
 
 hole-stands : (at : Place) (r : Leg) (w s : Walk) (width : ℕ) → Stands at w → Stands (r .at) s → r .above ≡ s .above → holeOf at r width ≡ holeAt w s width
 hole-stands at r w s width at-w at-s a =
-    rw (hook-is (r .at) s (r .above) width at-s a, bits-stand (r .at) s at-s, bits-stand at w at-w, at-w .row, at-s .row)
+    rw (hook-is (r .at) s (r .above) width at-s a, bits-there (r .at) s at-s, bits-there at w at-w, at-w .row, at-s .row)
 
 -- where a way that a walk remembers is linked
 module _ (rows : ℕ → Rows.Row) (n room bits above path : ℕ) (fits : n ≤ room) where
@@ -347,7 +343,7 @@ module _ {h : Header} {table : List ℕ} {k : ℕ} {at : Place} {above : ℕ} (f
 
     pub few-bits : bitsLeft (r .at .mask) ≤ h .width
     few-bits =
-        le-trans (le-of-eq (bits-stand (r .at) (leg-ends .walk) (leg-ends .on .stands)))
+        le-trans (le-of-eq (bits-there (r .at) (leg-ends .walk) (leg-ends .on .stands)))
         (on-both h table fine k (found .walk) (found .walked) (found .there) (leg-ends .walk) (leg-ends .goes-on) .fits)
 
     pub damaged-below : rowEnd (rowAt table) (h .count) (r .at) ≡ Ends.Damage → broken (erasing (h .width) k (shown h table) .rows-read) ≡ true
@@ -483,7 +479,7 @@ module _ {h : Header} {table : List ℕ} {x : ℕ} {s : Seek} {end : End} (q : S
     its-hook = hooked ∙ rw (at, left-there) (hook-there q)
 
     its-bits : bits ≡ q .ends .walk .bits
-    its-bits = left-there ∙ bits-there q
+    its-bits = left-there ∙ bits-left q
 
     pub seek-moves : (ends : Bool) → ends ≡ ends-last (s .row) (h .count - 1) end → (hole : ℕ) → (hole ≡ pred (h .count) → ⊥)
         → JudgedMove h table hole (record { needed = true; astray = not ends; hook = k; rows = h .width - bits + 1 })
@@ -577,7 +573,7 @@ module _ {h : Header} {table : List ℕ} {k : ℕ} {s : Seek} {end : End} (q : S
   pub seek-none : end ≡ Ends.None → delOutcome h table k ≡ record { reply = answered h NoSuchWord (h .width - bitsLeft (s .mask)); table = table }
   seek-none is =
       let so : q .ends .walk .stage ≡ AtNone = so-ended Ends.None is in
-      let read : rowsRead (q .ends .walk) (h .width) ≡ h .width - bitsLeft (s .mask) = rw (so, bits-there q) (omega arith) in
+      let read : rowsRead (q .ends .walk) (h .width) ≡ h .width - bitsLeft (s .mask) = rw (so, bits-left q) (omega arith) in
       rw (← read) (not-there h table k (q .fine) (q .small) (q .ends .walk) (q .ends .walked) (rw so) (rw so))
 
   module _ {r : Rows.Row} (is : end ≡ Ends.Row r) where
@@ -589,7 +585,7 @@ module _ {h : Header} {table : List ℕ} {k : ℕ} {s : Seek} {end : End} (q : S
     seek-other apart =
         let absent : endsAt k (q .ends .walk .key) (q .ends .walk .stage) ≡ false
         = rw (so-row .0) (ne-eqb k (q .ends .walk .key) (λ same. apart (sym (same ∙ so-row .2)))) in
-        let read : rowsRead (q .ends .walk) (h .width) ≡ h .width - bitsLeft (s .mask) + 1 = rw (so-row .0, bits-there q) in
+        let read : rowsRead (q .ends .walk) (h .width) ≡ h .width - bitsLeft (s .mask) + 1 = rw (so-row .0, bits-left q) in
         rw (← read) (not-there h table k (q .fine) (q .small) (q .ends .walk) (q .ends .walked) absent (rw (so-row .0)))
 
     module _ (same : r .entry .key ≡ k) where

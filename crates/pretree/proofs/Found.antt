@@ -1,12 +1,11 @@
 -- What a call that looks for a word answers where its way ended, by the end that the code found there.
-use Prim.Native.Nat.{ℕ, zero, suc, _+_, _-_, _^_, _≤_, _<_}
+use Prim.Native.Nat.{ℕ, zero, suc, _+_, _-_, _≤_, _<_}
 use mathlib.Core.Path.{_≡_, refl, sym, ap, _∙_}
 use mathlib.Core.Bool.{Bool, true, false, _||_, or-false}
 use mathlib.Core.List.{List, []}
-use native.Mathlib.Nat.{add-zero, zero-add, zero-mul}
+use native.Mathlib.Nat.{add-zero, zero-add}
 use native.Mathlib.Omega.{arith}
 use lib.Dec.{ltb, eqb}
-use lib.Pow.{pow-pos, pow-mono}
 use borrow.Author.Tests.{ltb-true, eq-eqb, ne-eqb}
 use Rattle.ordered.specs.Such.{if_then_else_, such, no-such, only-if}
 use Rattle.ordered.specs.Word.{right}
@@ -30,10 +29,10 @@ use Rattle.pretree.specs.Find.{read-reply, saying, done, hasReply}
 use Rattle.pretree.specs.Walk.{Walk, On, AtDamage, isOn, rowsRead, started, startedAt, ended, holds, treeAt, to-come, seeking, Placed, Walking, Walked}
 use Rattle.pretree.specs.Resume.{Going}
 use Rattle.pretree.specs.Seek.{bitsLeft, endAt, Sought, SeekEnds}
-use Rattle.pretree.specs.Leg.{rootPlace, judges, rowEnd, EndsSo, Stands, OnLeg, BegunLeg, LegGone, LegEnds, passesDown, stageHere}
+use Rattle.pretree.specs.Leg.{judges, rowEnd, EndsSo, OnLeg, BegunLeg, LegGone, LegEnds, passesDown, stageHere}
 use Rattle.pretree.specs.Found.{foundBy, wordBy, then-by, GreatestFrom, greatestBy}
 use Rattle.pretree.proofs.Unfolding.{is-damaged, is-row}
-use Rattle.pretree.proofs.Between.{bits-are}
+use Rattle.pretree.proofs.Places.{bits-there}
 use Rattle.pretree.proofs.Walking.{at-none, at-damage, begins}
 use Rattle.pretree.proofs.Ended.{endsIn, all-gone, rows-gone}
 use Rattle.pretree.proofs.Seeking.{following-is}
@@ -45,10 +44,6 @@ pub has-ended : (rows : ℕ → Rows.Row) (w : Walk) (e : End) → EndsSo rows w
 has-ended rows w Ends.the-variants.None at = rw at
 has-ended rows w (Ends.the-variants.Row r) so = rw (so .0)
 has-ended rows w Ends.the-variants.Damage at = rw at
-
--- the bits left at a place
-pub bits-there : (p : Place) (w : Walk) → Stands p w → bitsLeft (p .mask) ≡ w .bits
-bits-there p w at = ap bitsLeft (at .mask) ∙ bits-are (w .bits) (at .few)
 
 -- the word at which a second way ended, after n rows
 module _ (h : Header) (n : ℕ) (rows : ℕ → Rows.Row) (f : Rule) (m count : ℕ) (tree : Tree) (w : Walk) (gone : Walked rows f m count tree w) where
@@ -127,18 +122,6 @@ module _ (h : Header) (table : List ℕ) (f : Rule) where
             → then-by h 0 v
             ≡ (if broken v || false then refused h Damage else answered h (saying Word (keyAt (v .end))) (Ways.rows v + 0))
         go v = rw (or-false, add-zero, zero-add)
-
--- the root stands where a walk begins
-pub root-stands : (h : Header) → h .width ≤ 32 → Stands (rootPlace (h .width)) (started h)
-root-stands h few =
-    record {
-      row = refl;
-      mask = refl;
-      path = sym (zero-mul (2 ^ h .width));
-      low = refl;
-      few = few;
-      room = omega (arith, pow-pos (h .width), pow-mono few);
-    }
 
 -- a way that stays ends at once
 pub stays : (m : ℕ) (t : Tree) → way staying m t ≡ ending m t

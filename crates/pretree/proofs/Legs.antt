@@ -19,7 +19,7 @@ use Rattle.pretree.specs.declared.leg.Leg.{Leg}
 use Rattle.pretree.specs.Table.{link}
 use Rattle.pretree.specs.Walk.{Walk, Stage, On, AtRow, AtDamage, isOn, holds, ended, remembering, passed, turned, stageAt, met, below, downTurn}
 use Rattle.pretree.specs.Leg.{judges, belowPlace, rowEnd, linkEnd, EndsSo, Stands, OnLeg, GoesOn, passesDown, firstSide, passesPush, ownSide, stageHere, BegunLeg, LegWalk, LegGone, LegEnds}
-use Rattle.pretree.proofs.Between.{turns-so}
+use Rattle.pretree.proofs.Between.{turns-so, side-of-bit}
 use Rattle.pretree.proofs.Places.{judges-so, below-stands, inner}
 use Rattle.pretree.proofs.Resuming.{keeps-on}
 use Rattle.pretree.proofs.Falling.{down-says}
@@ -312,12 +312,8 @@ down-ends rows count side l r g w on at = ends-after rows (down (sideOf side)) c
         ends-at-link rows (down (sideOf side)) count r (v .walk) Damage (v .on) (v .stage ∙ rw (← v .on .stands .row, unused))
 
 -- The push: the turn by its own bits is what the rule says of a key.
-sides : (s : Side) → sideOf (bitOf s) ≡ s
-sides left = refl
-sides right = refl
-
 pub own-turn : (mask m key : ℕ) → mask ≡ 2 ^ suc m - 1 → sideOf (ownSide mask key) ≡ side m key
-own-turn mask m key e = rw (e, and-mask key (suc m), turns-so m key) (sides (side m key))
+own-turn mask m key e = rw (e, and-mask key (suc m), turns-so m key) (side-of-bit (side m key))
 
 pub own-small : (mask key : ℕ) → ownSide mask key < 2
 own-small mask key = go (ltb (mask / 2) (bitAnd key mask))

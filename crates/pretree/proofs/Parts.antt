@@ -1,9 +1,9 @@
 -- Laws of parts, for the calls on the whole table: what a place and a row show, how their rows are counted, and how they are written.
 use Prim.Native.Nat.{ℕ, zero, suc, pred, _+_, _*_, _-_, _/_, _%_, _^_, _≤_, _<_}
 use mathlib.Core.Path.{_≡_, refl, sym, ap, _∙_, subst}
-use mathlib.Core.Bool.{Bool, true, false, not, _&&_, and-false}
+use mathlib.Core.Bool.{Bool, true, false, not, _&&_}
 use mathlib.Core.List.{List, [], _∷_, _++_}
-use native.Mathlib.Nat.{suc-ne-zero, add-zero, zero-add, add-suc, suc-add, suc-mul, le-refl, le-trans, pow-suc, pos-of-ne-zero, mul-le-mul-right, mod-lt}
+use native.Mathlib.Nat.{suc-ne-zero, add-zero, add-suc, suc-add, suc-mul, le-refl, pow-suc, mul-le-mul-right, mod-lt}
 use native.Mathlib.Numerals.{add-one}
 use native.Mathlib.Omega.{arith}
 use lib.Bits.{bitAnd, and-mask}
@@ -11,7 +11,7 @@ use lib.Dec.{ltb, leb, eqb}
 use lib.ListN.{length, set, length-set}
 use lib.Pow.{pow-pos, pow-lt, pow-add, suc-ones, split, shr-lt, shl-shr}
 use lib.Seq.{sets}
-use borrow.Author.Tests.{ltb-true, ltb-false, eqb-true, eqb-false, lt-ltb, le-ltb, eq-eqb, ne-eqb}
+use borrow.Author.Tests.{ltb-true, eqb-true, eqb-false, ne-eqb}
 use Rattle.ordered.specs.Such.{if_then_else_}
 use Rattle.ordered.specs.Word.{Side, left, right, bitOf}
 use Rattle.ordered.specs.Tree.{Tree, none, row, damaged, Entry, intact, size, listing}
@@ -28,7 +28,7 @@ use Rattle.pretree.specs.Leg.{judges, belowPlace, rowEnd, linkEnd, Stand
 use Rattle.pretree.specs.Seek.{bitsLeft}
 use Rattle.pretree.specs.Part.{ofPlace, rowTree, linkTree, placeTree, counted, StandsSome, Standing, StandingLink, Listable}
 use Rattle.pretree.proofs.Between.{bits-are, half-mask}
-use Rattle.pretree.proofs.Places.{judges-so, below-stands, inner}
+use Rattle.pretree.proofs.Places.{judges-so, below-stands, inner, bits-there}
 use Rattle.pretree.proofs.Unfolding.{is-row, is-damaged}
 
 -- ---- what counting gives
@@ -95,7 +95,7 @@ module _ (rows : ℕ → Rows.Row) (n : ℕ) where
 
   module _ (p : Place) (w : Walk) (st : Stands p w) where
     pub place-bits : bitsLeft (p .mask) ≡ w .bits
-    place-bits = ap bitsLeft (st .mask) ∙ bits-are (w .bits) (st .few)
+    place-bits = bits-there p w st
 
     place-path : p .path / suc (p .mask) ≡ w .path
     place-path = rw (st .mask, suc-ones (w .bits), st .path) (shl-shr (w .path) (w .bits))

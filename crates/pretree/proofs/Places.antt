@@ -1,22 +1,24 @@
 -- The numbers of a place judge a row as the definitions do, and lead on to the place below.
 use Prim.Native.Nat.{ℕ, zero, suc, _+_, _*_, _-_, _/_, _^_, _≤_, _<_}
-use mathlib.Core.Path.{_≡_, refl}
+use mathlib.Core.Path.{_≡_, refl, sym, ap, _∙_}
 use mathlib.Core.Bool.{Bool, true, false, not, _&&_, _||_}
-use native.Mathlib.Nat.{div-eq-of-lt, pow-suc}
+use native.Mathlib.Nat.{div-eq-of-lt, pow-suc, zero-mul}
 use native.Mathlib.Omega.{arith}
 use lib.Bits.{bitXor, xor-shr, xor-self, xor-add-and, and-le-l, and-le-r}
 use lib.Dec.{leb, eqb}
-use lib.Pow.{pow-pos, shl-shr, suc-ones, le-ones, lt-of-le-ones}
+use lib.Pow.{pow-pos, pow-mono, shl-shr, suc-ones, le-ones, lt-of-le-ones}
 use borrow.Author.Tests.{le-leb, lt-leb, ne-eqb, eqb-true, eqb-false}
 use Rattle.ordered.specs.Word.{Side, left, right, bitOf}
 use Rattle.ordered.proofs.Bits.{on-root-path}
+use Rattle.pretree.specs.declared.Header.{Header}
 use Rattle.pretree.specs.declared.Row.{Row}
 use Rattle.pretree.specs.declared.leg.Place.{Place}
 use Rattle.pretree.specs.Table.{link}
 use Rattle.pretree.specs.Unfold.{ends-there}
-use Rattle.pretree.specs.Walk.{Walk, holds, passed}
-use Rattle.pretree.specs.Leg.{judges, belowPlace, Stands}
-use Rattle.pretree.proofs.Between.{half-mask}
+use Rattle.pretree.specs.Walk.{Walk, started, holds, passed}
+use Rattle.pretree.specs.Leg.{rootPlace, judges, belowPlace, Stands}
+use Rattle.pretree.specs.Seek.{bitsLeft}
+use Rattle.pretree.proofs.Between.{half-mask, bits-are}
 
 -- words that differ in no bit are the same
 no-difference : (a b : ℕ) → bitXor a b ≡ 0 → a ≡ b
@@ -99,3 +101,19 @@ module _ (p : Place) (w : Walk) (st : Stands p w) where
 
     pub inner : 0 < p .mask
     inner = rw ones (some-ones m)
+
+-- the bits left at a place
+pub bits-there : (p : Place) (w : Walk) → Stands p w → bitsLeft (p .mask) ≡ w .bits
+bits-there p w at = ap bitsLeft (at .mask) ∙ bits-are (w .bits) (at .few)
+
+-- the root stands where a walk begins
+pub root-stands : (h : Header) → h .width ≤ 32 → Stands (rootPlace (h .width)) (started h)
+root-stands h few =
+    record {
+      row = refl;
+      mask = refl;
+      path = sym (zero-mul (2 ^ h .width));
+      low = refl;
+      few = few;
+      room = omega (arith, pow-pos (h .width), pow-mono few);
+    }

@@ -25,17 +25,13 @@ use Rattle.pretree.specs.Walk.{started, isOn, holds, ended, remembering,
 use Rattle.pretree.specs.Leg.{EndsSo}
 use Rattle.pretree.specs.Seek.{begun, passes, goesOn, gone, turn, endOf, asideOf, spanOf, Shows, OnSeek, SeekEnds}
 use Rattle.pretree.specs.Seek as Seeks
-use Rattle.pretree.proofs.Between.{below-in, below-few, above-in, above-near, half-mask, turns-so, next-rest}
+use Rattle.pretree.proofs.Between.{below-in, below-few, above-in, above-near, half-mask, turns-so, next-rest, side-of-bit}
 use Rattle.pretree.proofs.Walking.{keeps, begins-root}
 use Rattle.pretree.proofs.Seeking.{seek-says}
 
 both : (a b : Bool) → (a && b) ≡ true → (a ≡ true) × (b ≡ true)
 both true b e = (refl, e)
 both false b e = absurd (true≢false (sym e))
-
-sides : (s : Side) → sideOf (bitOf s) ≡ s
-sides left = refl
-sides right = refl
 
 -- a test that gives the bit of a side
 tells-left : (b : Bool) → (if b then 1 else 0) ≡ bitOf left → b ≡ false
@@ -205,7 +201,7 @@ module _ (rows : ℕ → Rows.Row) (k : ℕ) (s : Seek) (w : Walk) (sh : Shows r
               let sound : holds w here ≡ true = holds-so low (below-in k key (w .bits) (p .less) few) (rw bits) in
               let moved : on-walk ≡ turned w here (to (side m k))
               = rw (sound, bits, ne-eqb (suc m) 0 (suc-ne-zero m), lt-leb k key (p .less)) in
-              (walks-on (on-here in-use low), rw (moved, turns p m bits, sides (side m k)) (turned-shows p m bits (side m k) refl))
+              (walks-on (on-here in-use low), rw (moved, turns p m bits, side-of-bit (side m k)) (turned-shows p m bits (side m k) refl))
 
       damaged-here : w .stage ≡ On → holds w here ≡ false → Ends Damage
       unfolding met

@@ -3,11 +3,10 @@ use Prim.Native.Nat.{ℕ, zero, suc, _+_, _*_, _-_, _/_, _^_, _≤_, _<_}
 use mathlib.Core.Path.{_≡_, refl, sym, ap, ap₂, _∙_}
 use mathlib.Core.Bool.{Bool, true, false, _&&_, true≢false}
 use mathlib.Core.List.{List, _++_}
-use native.Mathlib.Nat.{zero-add, zero-mul, le-trans}
+use native.Mathlib.Nat.{zero-add, le-trans}
 use native.Mathlib.Omega.{arith}
 use lib.Dec.{ltb, eqb}
 use lib.ListN.{length, drop}
-use lib.Pow.{pow-pos, pow-mono}
 use lib.Seq.{sets, sets-eq}
 use borrow.Author.Tests.{ltb-true, lt-ltb, le-ltb, eqb-true, eqb-false, eq-eqb, ne-eqb}
 use Rattle.ordered.specs.Such.{if_then_else_}
@@ -29,6 +28,7 @@ use Rattle.pretree.specs.Walk.{started, below}
 use Rattle.pretree.specs.Seek.{bitsLeft}
 use Rattle.pretree.specs.Leg.{rootPlace, judges, rowEnd, Stands}
 use Rattle.pretree.specs.Part.{rowTree, counted, Standing, Listable}
+use Rattle.pretree.proofs.Places.{root-stands}
 use Rattle.pretree.proofs.Checks.{right-header}
 use Rattle.pretree.proofs.Unfolding.{is-row, is-damaged}
 use Rattle.pretree.proofs.Parts.{row-found}
@@ -78,18 +78,6 @@ module _ (rows : ℕ → Rows.Row) (n more : ℕ) (fewer : n ≤ more) where
   wider m i whole = row-same m (below-same m) i whole
 
 -- ---- the root
-
--- the root stands where a walk begins
-root-stands : (h : Header) → h .width ≤ 32 → Stands (rootPlace (h .width)) (started h)
-root-stands h few =
-    record {
-      row = refl;
-      mask = refl;
-      path = sym (zero-mul (2 ^ h .width));
-      low = refl;
-      few = few;
-      room = omega (arith, pow-pos (h .width), pow-mono few);
-    }
 
 -- a list that is written from the front on leaves the rest
 written-first : (xs buffer : List ℕ) (n : ℕ) → length xs ≡ n → n ≤ length buffer → sets buffer 0 xs ≡ xs ++ drop n buffer

@@ -9,8 +9,8 @@ use Rattle.pretree.specs.Walk.{started}
 use Rattle.pretree.specs.Leg.{rootPlace}
 use Rattle.pretree.specs.Find.{firstReply}
 use Rattle.pretree.proofs.Checks.{RightHeader, right-header}
-use Rattle.pretree.proofs.Places.{judges-so}
-use Rattle.pretree.proofs.Found.{root-refused, no-root, from-root, root-stands, row-read}
+use Rattle.pretree.proofs.Places.{judges-so, root-stands}
+use Rattle.pretree.proofs.Found.{root-refused, no-root, from-root, row-read}
 use borrow.Author.Needs.{needs}
 use Rattle.pretree.proofs.Header.first.Statement.{statement}
 use Rattle.pretree.proofs.Header.first.Tie as tie

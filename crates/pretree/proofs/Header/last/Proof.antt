@@ -10,7 +10,8 @@ use Rattle.pretree.specs.Walk.{started}
 use Rattle.pretree.specs.Find.{lastReply}
 use Rattle.pretree.specs.Found.{GreatestFrom}
 use Rattle.pretree.proofs.Checks.{RightHeader, right-header}
-use Rattle.pretree.proofs.Found.{root-refused, no-root, from-root, root-stands}
+use Rattle.pretree.proofs.Places.{root-stands}
+use Rattle.pretree.proofs.Found.{root-refused, no-root, from-root}
 use borrow.Author.Needs.{needs}
 use Rattle.pretree.proofs.Header.last.Statement.{statement}
 use Rattle.pretree.proofs.Header.last.Tie as tie
