@@ -22,12 +22,12 @@ use Rattle.pretree.specs.Del.{delOutcome}
 use Rattle.pretree.specs.Whole.{newReply, newTable, auditReply, listReply, listBuffer}
 use Rattle.pretree.specs.Call.{After, after}
 use Rattle.pretree.proofs.Writing.{same-capacity}
+use Rattle.numbers.specs.declared.Number.{Number}
 use Rattle.lines.specs.declared.Line.{Line}
 use Rattle.lines.specs.declared.Line.the-variants.{Read, Unread}
-use Rattle.lines.specs.declared.Number.{Number}
 use Rattle.lines.specs.declared.Said.{Said}
-use Rattle.lines.specs.Line.{parse, asNumber}
-use Rattle.lines.specs.Render.{saidOf, replyLine, keyLines}
+use Rattle.lines.specs.Line.{parse}
+use Rattle.lines.specs.Render.{asNumber, saidOf, replyLine, keyLines}
 use Rattle.lines.specs.Output.{State, start, Step, listedIn, listedBy, answer, written, writtenFor, linesOf, output}
 use Rattle.demands.specs.Program.{State as Between, outcome}
 use Rattle.demands.specs.Expected.{Kept, only, expected, kept-after, changed}

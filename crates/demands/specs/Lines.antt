@@ -9,12 +9,12 @@ use lib.ListN.{length, replicate}
 use Rattle.ordered.specs.Such.{if_then_else_}
 use Rattle.pretree.specs.declared.Call.{Call}
 use Rattle.pretree.specs.declared.Call.the-variants.{New, Add, Del, Has, Next, Prev, Gap, First, Last, Audit}
+use Rattle.numbers.specs.declared.Number.the-variants.{Nothing}
 use Rattle.lines.specs.declared.Line.{Line}
 use Rattle.lines.specs.declared.Line.the-variants.{Read, Unread}
-use Rattle.lines.specs.declared.Number.the-variants.{Nothing}
 use Rattle.lines.specs.declared.Said.{Said}
-use Rattle.lines.specs.Line.{asNumber, parse}
-use Rattle.lines.specs.Render.{notRead, replyLine, keyLines}
+use Rattle.lines.specs.Line.{parse}
+use Rattle.lines.specs.Render.{asNumber, notRead, replyLine, keyLines}
 use Rattle.lines.specs.Output.{State, start, answer, linesOf, output}
 use Rattle.demands.specs.Expected.{Kept, expected, kept-after}
 use Rattle.demands.specs.RowsRead.{rowsOver, movedOver, refusedOver}

@@ -16,7 +16,8 @@ use Rattle.pretree.specs.Add.{addOutcome, grown, taking}
 use Rattle.pretree.specs.Del.{delOutcome, secondWay, astray, moving, shrunk}
 use Rattle.pretree.specs.Call.{after}
 use Rattle.pretree.specs.Whole.{newReply, newTable, listReply, listBuffer}
-use Rattle.lines.specs.Line.{parse, afterWord, number, isNumber, areDigits, spelt}
+use Rattle.numbers.specs.Decimal.{readNumber, isNumber, areDigits, spelt}
+use Rattle.lines.specs.Line.{parse, afterWord}
 use Rattle.lines.specs.Render.{digits, digitsWithin, replyLine, keyLine, keyLines}
 use Rattle.lines.specs.Output.{listedBy, answer, written, writtenFor, ended, unended, linesOf, output}
 use Rattle.ordered.specs.Example.{All-agree}
@@ -24,7 +25,7 @@ use Rattle.lines.specs.Text.{bytes}
 use Rattle.lines.specs.Example.{given, wanted, readings}
 
 pub example-agrees : output given ≡ wanted
-unfolding parse afterWord number isNumber areDigits spelt digits digitsWithin replyLine keyLine keyLines
+unfolding parse afterWord readNumber isNumber areDigits spelt digits digitsWithin replyLine keyLine keyLines
     listedBy after answer written writtenFor ended unended linesOf output
     hasReply nextReply prevReply has next prev last gap numberOf keyOf
     shown unfolded rowAt capacity wrong-header too-wide rowsOf brokenIn way rows broken following passing-equal down staying last-such side
@@ -34,10 +35,10 @@ example-agrees = refl
 
 -- "or at the end of input if bytes are left"
 pub last-line-agrees : output (bytes "\nfirst") ≡ bytes "1\t9\t-\t0\t0\n2\t2\t-\t0\t0\n"
-unfolding parse afterWord number isNumber areDigits spelt digits digitsWithin replyLine keyLine keyLines listedBy after answer written writtenFor ended unended linesOf output
+unfolding parse afterWord readNumber isNumber areDigits spelt digits digitsWithin replyLine keyLine keyLines listedBy after answer written writtenFor ended unended linesOf output
     firstReply numberOf keyOf wrong-header
 last-line-agrees = refl
 
 pub readings-agree : All-agree readings
-unfolding parse afterWord number isNumber areDigits spelt
+unfolding parse afterWord readNumber isNumber areDigits spelt
 readings-agree = refl

@@ -13,9 +13,8 @@ use Rattle.ordered.specs.Such.{if_then_else_, Perhaps, no-such, such, first-of}
 use Rattle.pretree.specs.declared.Call.{Call}
 use Rattle.lines.specs.declared.Line.{Line}
 use Rattle.lines.specs.declared.Line.the-variants.{Unread}
-use Rattle.lines.specs.declared.Number.the-variants.{Of, Nothing}
 use Rattle.lines.specs.Text.{bytes}
-use Rattle.lines.specs.Line.{parse, asNumber, afterWord, Form, with-number, alone, operations, firstRead, if-nothing, lineOf}
+use Rattle.lines.specs.Line.{parse, afterWord, Form, with-number, alone, operations, firstRead, if-nothing, lineOf}
 use Rattle.lines.specs.Head.{packed, headOf, afterHead, byHead}
 use Rattle.lines.proofs.Tests.{either, both}
 
@@ -159,15 +158,6 @@ nothing-behind call (x ∷ rest) h = absurd (omega arith)
 pub more-behind : (call : Call) (rest : List ℕ) → (length rest ≡ 0 → ⊥) → if-nothing call rest ≡ no-such
 more-behind call [] h = absurd (h refl)
 more-behind call (x ∷ rest) h = refl
-
--- what digits were read as
-pub such-number : (p : Perhaps ℕ) (k : ℕ) → asNumber p ≡ Of k → p ≡ such k
-such-number no-such k h = let z : _≡_ {A = ℕ} 0 1 = cc in absurd (omega arith)
-such-number (such j) k h = let e : j ≡ k = cc in rw e
-
-pub no-number : (p : Perhaps ℕ) → asNumber p ≡ Nothing → p ≡ no-such
-no-number no-such h = refl
-no-number (such j) h = let z : _≡_ {A = ℕ} 0 1 = cc in absurd (omega arith)
 
 -- a part that goes to the end of a slice
 pub rest-of : (l : List ℕ) (i : ℕ) → take (length l - i) (drop i l) ≡ drop i l

@@ -1,5 +1,4 @@
 pub mod Tests
-pub mod Numbers
 pub mod Heads
 pub mod Digits
 pub mod ReadBack

@@ -1,12 +1,12 @@
 -- A line is read exactly when it spells a call, and is answered 9 exactly when it is not read.
 use Prim.Native.Nat.{ℕ, _≤_}
 use mathlib.Core.Path.{_≡_, refl, sym, ap, _∙_}
-use mathlib.Core.Bool.{Bool, true, false, not, _&&_, false≢true}
+use mathlib.Core.Bool.{Bool, true, false, _&&_}
 use mathlib.Core.List.{List, [], _∷_, _++_, append-nil, List·Memᴰ·head, List·Memᴰ·tail}
 use mathlib.Core.Logic.{_↔_, ⊎-elim}
 use native.Mathlib.Omega.{arith}
-use borrow.Author.Tests.{eq-eqb, eqb-true, le-ltb, ltb-true, ltb-false, leb-true}
-use lib.Dec.{T, ltb, leb, eqb}
+use borrow.Author.Tests.{eq-eqb, eqb-true, le-ltb, ltb-true, ltb-false}
+use lib.Dec.{T, ltb, eqb}
 use lib.ListN.{length}
 use Rattle.ordered.specs.Such.{if_then_else_, Perhaps, no-such, such}
 use Rattle.ordered.specs.Said.{_∈_}
@@ -15,15 +15,18 @@ use Rattle.pretree.specs.declared.Answer.the-variants.{Done, Word, Distance, Wr
 use Rattle.pretree.specs.Answer.{numberOf}
 use Rattle.pretree.specs.declared.Call.{Call}
 use Rattle.pretree.specs.Call.{after}
+use Rattle.numbers.specs.declared.Number.{Number}
+use Rattle.numbers.specs.declared.Number.the-variants.{Of, Nothing}
+use Rattle.numbers.specs.Decimal.{readNumber}
+use Rattle.numbers.proofs.Laws.{read-spells, spells-read}
 use Rattle.lines.specs.declared.Line.{Line}
 use Rattle.lines.specs.declared.Line.the-variants.{Read, Unread}
 use Rattle.lines.specs.Text.{bytes}
-use Rattle.lines.specs.Line.{areDigits, spelt, leadsWithZero, isNumber, number, afterWord, Form, with-number, alone, operations}
+use Rattle.lines.specs.Line.{afterWord, Form, with-number, alone, operations}
 use Rattle.lines.specs.Line.{called, with-rest, if-nothing, readAs, firstRead, lineOf, parse}
 use Rattle.lines.specs.Output.{State, answer}
-use Rattle.lines.specs.NotRead.{SpellsNumber, Spells, numbered, bare, Refused, AnswersNine}
+use Rattle.lines.specs.NotRead.{Spells, numbered, bare, Refused, AnswersNine}
 use Rattle.lines.proofs.Tests.{either, both}
-use Rattle.lines.proofs.Numbers.{is-number}
 use Rattle.lines.proofs.Heads.{long-unread}
 
 nothing-such : {A : Type 0} {a : A} → no-such ≡ such a → ⊥
@@ -31,43 +34,6 @@ nothing-such e = let z : _≡_ {A = ℕ} 0 1 = cc in omega arith
 
 never-read : {call : Call} → Unread ≡ Read call → ⊥
 never-read e = let z : _≡_ {A = ℕ} 0 1 = cc in omega arith
-
-both-true : (a b : Bool) → (a && b) ≡ true → (a ≡ true) × (b ≡ true)
-both-true true b e = (refl, e)
-both-true false b e = absurd (false≢true e)
-
-not-true : (a : Bool) → not a ≡ true → a ≡ false
-not-true true e = absurd (false≢true e)
-not-true false e = refl
-
--- digits that are read as a number spell it
-number-parts : (ds : List ℕ) → isNumber ds ≡ true → SpellsNumber (spelt 0 ds) ds
-unfolding isNumber
-number-parts ds e =
-    let below = leb (spelt 0 ds) 4294967295 in
-    let a = both-true (leb 1 (length ds)) (leb (length ds) 10 && (not (leadsWithZero ds) && (areDigits ds && below))) e in
-    let b = both-true (leb (length ds) 10) (not (leadsWithZero ds) && (areDigits ds && below)) (a .1) in
-    let c = both-true (not (leadsWithZero ds)) (areDigits ds && below) (b .1) in
-    let d = both-true (areDigits ds) below (c .1) in
-    record {
-      some = leb-true 1 (length ds) (a .0);
-      few = leb-true (length ds) 10 (b .0);
-      digits = d .0;
-      plain = not-true (leadsWithZero ds) (c .0);
-      value = refl;
-      most = leb-true (spelt 0 ds) 4294967295 (d .1);
-    }
-
-number-is : (ds : List ℕ) {n : ℕ} → number ds ≡ such n → SpellsNumber n ds
-unfolding number
-number-is ds {n} e =
-    ⊎-elim
-    (λ (t : isNumber ds ≡ true). let same : spelt 0 ds ≡ n = cc (rw t at e) in rw same at (number-parts ds t))
-    (λ (f : isNumber ds ≡ false). absurd (nothing-such (rw f at e)))
-    (either (isNumber ds))
-
-is-the-number : (ds : List ℕ) {n : ℕ} → SpellsNumber n ds → number ds ≡ such n
-is-the-number ds {n} s = is-number ds (s .some) (s .few) (s .plain) (s .digits) (rw (s .value) (s .most)) ∙ ap such (s .value)
 
 -- a word stands at the front of a line, and this is behind it
 is-behind : (word rest : List ℕ) → afterWord word (word ++ rest) ≡ such rest
@@ -114,7 +80,7 @@ opening (with-number word of) = bytes word ++ bytes "\t"
 opening (alone word of) = bytes word
 
 abbrev callBy : Form → List ℕ → Perhaps Call
-callBy (with-number word of) rest = called of (number rest)
+callBy (with-number word of) rest = called of (readNumber rest)
 callBy (alone word of) rest = if-nothing of rest
 
 abbrev differs : Form → List Form → Bool
@@ -170,11 +136,11 @@ module _ (line : List ℕ) where
   rest-spells :
       (f : Form) (rest : List ℕ) {call : Call} → f ∈ operations → line ≡ opening f ++ rest → callBy f rest ≡ such call → length line ≤ 64
       → Spells call line
-  rest-spells (with-number word of) rest {call} m e c short = by-cases (number rest) refl
+  rest-spells (with-number word of) rest {call} m e c short = by-cases (readNumber rest) refl
     where
-      by-cases : (p : Perhaps ℕ) → number rest ≡ p → Spells call line
-      by-cases no-such a = absurd (nothing-such (rw a at c))
-      by-cases (such n) a = let same : of n ≡ call = cc (rw a at c) in numbered m e (number-is rest a) (sym same) short
+      by-cases : (p : Number) → readNumber rest ≡ p → Spells call line
+      by-cases Nothing a = absurd (nothing-such (rw a at c))
+      by-cases (Of n) a = let same : of n ≡ call = cc (rw a at c) in numbered m e (read-spells rest a) (sym same) short
   rest-spells (alone word of) [] {call} m e c short = let same : of ≡ call = cc in bare m (e ∙ append-nil (bytes word)) (sym same) short
   rest-spells (alone word of) (b ∷ rest) m e c short = absurd (nothing-such c)
 
@@ -184,7 +150,7 @@ module _ (line : List ℕ) where
   spells-form : {call : Call} → Spells call line → (f : Form) × (f ∈ operations) × (readAs behind f ≡ such call) × (length line ≤ 64)
   spells-form (numbered {word} {of} {n} {ds} m e s c short) =
       let front : behind (bytes word ++ bytes "\t") ≡ such ds = rw e (is-behind (bytes word ++ bytes "\t") ds) in
-      (with-number word of, m, rw (front, is-the-number ds s, c), short)
+      (with-number word of, m, rw (front, spells-read ds s, c), short)
   spells-form (bare {word} {of} m e c short) =
       let front : behind (bytes word) ≡ such [] = rw e (rw append-nil at (is-behind (bytes word) [])) in
       (alone word of, m, rw (front, c), short)

@@ -8,11 +8,11 @@ use native.Mathlib.Omega.{arith}
 use borrow.Author.Tests.{ne-eqb, ltb-true, ltb-false}
 use lib.Dec.{ltb, eqb}
 use lib.ListN.{length, getD, List·getD-append}
-use Rattle.ordered.specs.Such.{such}
-use Rattle.lines.specs.Line.{isDigit, areDigits, spelt, leadsWithZero, number}
+use Rattle.numbers.specs.declared.Number.the-variants.{Of}
+use Rattle.numbers.specs.Decimal.{isDigit, areDigits, spelt, leadsWithZero, readNumber}
+use Rattle.numbers.proofs.Laws.{is-digit, one-digit, digits-more, is-number}
 use Rattle.lines.specs.Render.{digit, digits}
 use Rattle.lines.proofs.Tests.{either}
-use Rattle.lines.proofs.Numbers.{is-digit, one-digit, digits-more, is-number}
 use Rattle.lines.proofs.Digits.{last-digit, more-digits, by-digits, last-places, more-places, some-places, few-places}
 
 spelt-last : (v : ℕ) (ds : List ℕ) (d : ℕ) → spelt v (ds ++ d ∷ []) ≡ spelt v ds * 10 + (d - 48)
@@ -59,7 +59,7 @@ no-leading-zero n =
     ∙ ne-eqb (getD (digits n) 0 0) 48 (λ e. omega (arith, first-digit n (omega arith))))
     (either (ltb n 10))
 
-pub reads-back : (n : ℕ) → n ≤ 4294967295 → number (digits n) ≡ such n
+pub reads-back : (n : ℕ) → n ≤ 4294967295 → readNumber (digits n) ≡ Of n
 reads-back n h =
     let r = is-number (digits n) (some-places n) (few-places 9 n (omega arith)) (no-leading-zero n) (all-digits n) (rw (all-spelt n) h) in
     rw (all-spelt n) at r

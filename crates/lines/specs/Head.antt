@@ -7,10 +7,11 @@ use lib.ListN.{getD, drop}
 use Rattle.ordered.specs.Such.{if_then_else_, Perhaps, no-such, such}
 use Rattle.pretree.specs.declared.Call.{Call}
 use Rattle.pretree.specs.declared.Call.the-variants.{New, Add, Del, Has, Next, Prev, Gap}
+use Rattle.numbers.specs.Decimal.{readNumber}
 use Rattle.lines.specs.declared.Line.{Line}
 use Rattle.lines.specs.declared.parse.Word.{Word}
 use Rattle.lines.specs.declared.parse.Word.the-variants as W
-use Rattle.lines.specs.Line.{number, afterWord, operations, firstRead, called, with-rest, if-nothing, lineOf}
+use Rattle.lines.specs.Line.{afterWord, operations, firstRead, called, with-rest, if-nothing, lineOf}
 
 abbrev pub packed : ℕ → ℕ → ℕ → ℕ → ℕ
 packed a b c d = ((a * 256 + b) * 256 + c) * 256 + d
@@ -36,7 +37,7 @@ callOf W.Gap k = Gap k
 
 -- the call of a word by what stands behind its head: a number, or one byte and a number; or nothing, or one byte
 unfoldable pub numbered : Word → List ℕ → Perhaps Call
-numbered word digits = called (callOf word) (number digits)
+numbered word digits = called (callOf word) (readNumber digits)
 
 unfoldable pub numberedAfter : ℕ → Word → List ℕ → Perhaps Call
 numberedAfter b word rest = with-rest (numbered word) (afterWord (b ∷ []) rest)

@@ -1,51 +1,20 @@
 -- What one line means, from its bytes without the byte 10 that ends it.
 -- Document 01: "One of `new`, `add`, `del`, `has`, `next`, `prev`, `gap`, then one tab and a number; or `first`, `last`, `list`, `audit` with
 -- nothing after. [..] Anything else, a line above 64 bytes (its byte 10 not counted) or an empty line included, is answer 9."
-use Prim.Native.Nat.{ℕ, _+_, _*_, _-_}
+use Prim.Native.Nat.{ℕ}
 use Prim.Native.String.{String}
-use mathlib.Core.Bool.{Bool, true, false, not, _&&_}
 use mathlib.Core.List.{List, [], _∷_, _++_}
-use lib.Dec.{ltb, leb, eqb}
+use lib.Dec.{ltb, eqb}
 use lib.ListN.{length}
 use Rattle.ordered.specs.Such.{if_then_else_, Perhaps, no-such, such, first-of}
 use Rattle.pretree.specs.declared.Call.{Call}
 use Rattle.pretree.specs.declared.Call.the-variants.{New, Add, Del, Has, Next, Prev, Gap, First, Last, Audit}
+use Rattle.numbers.specs.declared.Number.{Number}
+use Rattle.numbers.specs.declared.Number.the-variants.{Of, Nothing}
+use Rattle.numbers.specs.Decimal.{readNumber}
 use Rattle.lines.specs.declared.Line.{Line}
 use Rattle.lines.specs.declared.Line.the-variants.{Read, Unread}
-use Rattle.lines.specs.declared.Number.{Number}
-use Rattle.lines.specs.declared.Number.the-variants.{Of, Nothing}
 use Rattle.lines.specs.Text.{bytes}
-
--- the digits `0` to `9`
-abbrev pub isDigit : ℕ → Bool
-isDigit b = leb 48 b && leb b 57
-
-unfoldable pub areDigits : List ℕ → Bool
-areDigits [] = true
-areDigits (d ∷ ds) = isDigit d && areDigits ds
-
--- the number that digits spell, after those that spell n
-unfoldable pub spelt : ℕ → List ℕ → ℕ
-spelt n [] = n
-spelt n (d ∷ ds) = spelt (n * 10 + (d - 48)) ds
-
--- a 0 with more after it
-abbrev pub leadsWithZero : List ℕ → Bool
-leadsWithZero [] = false
-leadsWithZero (d ∷ []) = false
-leadsWithZero (d ∷ e ∷ ds) = eqb d 48
-
--- "A number is 1 to 10 digits, no leading zero but for 0 itself, at most 4,294,967,295."
-unfoldable pub isNumber : List ℕ → Bool
-isNumber ds =
-    leb 1 (length ds) && (leb (length ds) 10 && (not (leadsWithZero ds) && (areDigits ds && leb (spelt 0 ds) 4294967295)))
-
-unfoldable pub number : List ℕ → Perhaps ℕ
-number ds = if isNumber ds then such (spelt 0 ds) else no-such
-
-abbrev pub asNumber : Perhaps ℕ → Number
-asNumber no-such = Nothing
-asNumber (such k) = Of k
 
 -- what stands after a word with which a line begins
 unfoldable pub afterWord : List ℕ → List ℕ → Perhaps (List ℕ)
@@ -73,9 +42,9 @@ operations =
     ∷ alone "audit" Audit
     ∷ []
 
-abbrev pub called : (ℕ → Call) → Perhaps ℕ → Perhaps Call
-called call no-such = no-such
-called call (such k) = such (call k)
+abbrev pub called : (ℕ → Call) → Number → Perhaps Call
+called call Nothing = no-such
+called call (Of k) = such (call k)
 
 abbrev pub with-rest : (List ℕ → Perhaps Call) → Perhaps (List ℕ) → Perhaps Call
 with-rest read no-such = no-such
@@ -87,7 +56,7 @@ if-nothing call (b ∷ rest) = no-such
 
 -- the call of a form, by what stands behind a word
 abbrev pub readAs : (List ℕ → Perhaps (List ℕ)) → Form → Perhaps Call
-readAs behind (with-number word call) = with-rest (λ rest. called call (number rest)) (behind (bytes word ++ bytes "\t"))
+readAs behind (with-number word call) = with-rest (λ rest. called call (readNumber rest)) (behind (bytes word ++ bytes "\t"))
 readAs behind (alone word call) = with-rest (if-nothing call) (behind (bytes word))
 
 -- the call of the first form that fits

@@ -4,26 +4,17 @@
 use Prim.Native.Nat.{ℕ, suc, _≤_}
 use Prim.Native.String.{String}
 use mathlib.Core.Path.{_≡_}
-use mathlib.Core.Bool.{true, false}
 use mathlib.Core.List.{List, [], _++_}
 use mathlib.Core.Logic.{_↔_}
 use lib.ListN.{length}
 use Rattle.ordered.specs.Said.{_∈_}
 use Rattle.pretree.specs.declared.Call.{Call}
+use Rattle.numbers.specs.declared.Number.the-variants.{Nothing}
+use Rattle.numbers.specs.Decimal.{SpellsNumber}
 use Rattle.lines.specs.declared.Line.the-variants.{Read, Unread}
-use Rattle.lines.specs.declared.Number.the-variants.{Nothing}
 use Rattle.lines.specs.Text.{bytes}
-use Rattle.lines.specs.Line.{areDigits, leadsWithZero, spelt, with-number, alone, operations, parse}
+use Rattle.lines.specs.Line.{with-number, alone, operations, parse}
 use Rattle.lines.specs.Output.{State, Step, answer}
-
--- "A number is 1 to 10 digits, no leading zero but for 0 itself, at most 4,294,967,295."
-pub record SpellsNumber (n : ℕ) (ds : List ℕ) : Type 0 where
-  pub some : 1 ≤ length ds
-  pub few : length ds ≤ 10
-  pub digits : areDigits ds ≡ true
-  pub plain : leadsWithZero ds ≡ false
-  pub value : spelt 0 ds ≡ n
-  pub most : n ≤ 4294967295
 
 -- a line of at most 64 bytes that is one of the forms
 pub data Spells (call : Call) (line : List ℕ) : Type 0 where

@@ -7,14 +7,13 @@ use mathlib.Core.List.{List, [], _∷_, _++_}
 use lib.Dec.{ltb}
 use lib.ListN.{length}
 use lib.Seq.{sets}
-use Rattle.ordered.specs.Such.{if_then_else_}
+use Rattle.ordered.specs.Such.{if_then_else_, Perhaps, no-such, such}
 use Rattle.pretree.specs.declared.Reply.{Reply}
 use Rattle.pretree.specs.Answer.{numberOf, keyOf}
-use Rattle.lines.specs.declared.Number.{Number}
-use Rattle.lines.specs.declared.Number.the-variants.{Of, Nothing}
+use Rattle.numbers.specs.declared.Number.{Number}
+use Rattle.numbers.specs.declared.Number.the-variants.{Of, Nothing}
 use Rattle.lines.specs.declared.Said.{Said}
 use Rattle.lines.specs.Text.{bytes}
-use Rattle.lines.specs.Line.{asNumber}
 
 abbrev pub digit : ℕ → ℕ
 digit d = 48 + d
@@ -39,6 +38,10 @@ field n = bytes "\t" ++ digits n
 abbrev pub keyField : Number → List ℕ
 keyField Nothing = bytes "\t-"
 keyField (Of k) = field k
+
+abbrev pub asNumber : Perhaps ℕ → Number
+asNumber no-such = Nothing
+asNumber (such k) = Of k
 
 -- what a reply line says behind its line number
 abbrev pub saidOf : Reply → Said

@@ -10,6 +10,7 @@ pub mod reply;
 mod serve;
 mod session;
 
+use numbers::Number;
 use pretree::Call;
 pub use serve::run;
 
@@ -17,12 +18,6 @@ pub use serve::run;
 pub enum Line {
     Read(Call),
     Unread,
-}
-
-// A number, or none: what digits are read as, and the key of a reply.
-pub enum Number {
-    Of(u32),
-    Nothing,
 }
 
 // What a reply line says behind its line number.

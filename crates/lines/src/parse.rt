@@ -1,10 +1,11 @@
 // Reading a line: specs/Line.antt says what each line means.
 
 use crate::Line;
-use crate::Number;
+use numbers::Number;
+use numbers::read_number;
 use pretree::Call;
 ghost use mathlib.Core.Path.{_≡_};
-ghost use Rattle.lines.specs.Line.{parse, number, asNumber, if-nothing, lineOf};
+ghost use Rattle.lines.specs.Line.{parse, if-nothing, lineOf};
 ghost use Rattle.lines.specs.Head.{packed, byHead, callOf, numbered, numberedAfter, aloneAfter};
 
 // The words behind which a number stands.
@@ -80,7 +81,7 @@ fn by_head(head: u32, rest: &[u8]) -> Line
 fn numbered(word: Word, digits: &[u8]) -> Line
     ensures { λ r. ⌜ r ≡ lineOf (numbered word (now (digits .entry))) ⌝ }
 {
-    let n = number(digits);
+    let n = read_number(digits);
     match n {
         Number::Of(k) => Line::Read(word.call(k)),
         Number::Nothing => Line::Unread,
@@ -119,39 +120,4 @@ fn alone_after(b: u8, call: Call, rest: &[u8]) -> Line
         return Line::Unread;
     }
     alone(call, &rest[1..])
-}
-
-// "A number is 1 to 10 digits, no leading zero but for 0 itself, at most 4,294,967,295."
-pub fn number(digits: &[u8]) -> Number
-    ensures { λ r. ⌜ r ≡ asNumber (number (now (digits .entry))) ⌝ }
-{
-    let n = digits.len();
-    if n == 0 {
-        return Number::Nothing;
-    }
-    if 10 < n {
-        return Number::Nothing;
-    }
-    if 1 < n {
-        if digits[0] == b'0' {
-            return Number::Nothing;
-        }
-    }
-    let mut value: u64 = 0;
-    let mut i: usize = 0;
-    while i < n {
-        let d = digits[i];
-        if d < b'0' {
-            return Number::Nothing;
-        }
-        if b'9' < d {
-            return Number::Nothing;
-        }
-        value = value * 10 + (d - b'0') as u64;
-        i += 1;
-    }
-    if 4294967295 < value {
-        return Number::Nothing;
-    }
-    Number::Of(value as u32)
 }

@@ -1,8 +1,8 @@
 // Writing a reply into a lent buffer: specs/Render.antt says what it looks like. Each function puts its bytes at the place `at` and
 // hands back the place behind them. A reply line has at most 65 bytes, and a line of a listed word at most 15.
 
-use crate::Number;
 use crate::Said;
+use numbers::Number;
 ghost use mathlib.Core.Path.{_≡_};
 ghost use Prim.Native.Nat.{_+_, _*_, _≤_};
 ghost use lib.ListN.{length};

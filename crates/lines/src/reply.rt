@@ -1,13 +1,12 @@
 // What a reply line says of a reply: document 01's number and key for each kind of answer.
 
-use crate::Number;
 use crate::Said;
+use numbers::Number;
 use pretree::Answer;
 use pretree::Reply;
 ghost use mathlib.Core.Path.{_≡_};
 ghost use Rattle.pretree.specs.Answer.{numberOf, keyOf};
-ghost use Rattle.lines.specs.Line.{asNumber};
-ghost use Rattle.lines.specs.Render.{saidOf, notRead};
+ghost use Rattle.lines.specs.Render.{asNumber, saidOf, notRead};
 
 pub fn said(reply: Reply) -> Said
     ensures { λ r. ⌜ r ≡ saidOf reply ⌝ }

@@ -1,6 +1,7 @@
 // Parsing a line that sets something: a word, then numbers, each after one tab.
 
-use lines::Number;
+use numbers::Number;
+use numbers::read_number;
 ghost use Prim.Native.Nat.{_≤_};
 ghost use lib.ListN.{length};
 
@@ -81,7 +82,7 @@ pub(crate) fn read_numbers(rest: &[u8], values: &mut [u32; 128]) -> Numbers
     while from < rest.len() {
         let start = from + 1;
         let end = find_tab(rest, start);
-        let n = lines::parse::number(&rest[start..end]);
+        let n = read_number(&rest[start..end]);
         let Number::Of(value) = n else {
             return Numbers { count, read: false };
         };

@@ -3,10 +3,10 @@
 use crate::State;
 use crate::calls::BLANK;
 use libc::STDOUT_FILENO;
-use lines::Number;
 use lines::Said;
 use lines::reply::not_read;
 use lines::reply::said;
+use numbers::Number;
 use pretree::Header;
 use pretree::Reply;
 ghost use mathlib.Core.Path.{_≡_};

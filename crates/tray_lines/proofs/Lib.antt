@@ -1,3 +1,2 @@
-mod Numbers
 pub mod Promise
 mod Tabs

@@ -1,23 +1,18 @@
 -- The call is made where the digits are a number.
-use mathlib.Core.Path.{_≡_, sym, ap, _∙_}
-use Rattle.ordered.specs.Such.{no-such, such}
+use mathlib.Core.Path.{sym, ap, _∙_}
 use Rattle.lines.specs.declared.Line.the-variants.{Read}
-use Rattle.lines.specs.Line.{number}
 use Rattle.lines.specs.Head.{numbered}
-use Rattle.lines.proofs.Heads.{such-number, no-number}
 use Rattle.lines.proofs.parse.numbered.Statement.{statement}
 use Rattle.lines.proofs.parse.numbered.Tie as tie
 
 returns : tie.Need-returns
 unfolding numbered
 returns c =
-    let digits = c .before .before .before .before .before .before .args .digits .now in
-    let k = c .before .before .n .given .0 .0 in
-    rw (such-number (number digits) k (sym (c .before .before .before .before .number .ensures) ∙ c .before .before .n .given .1)) (ap Read (c .call .ensures))
+    rw (sym (c .before .before .before .before .read-number .ensures) ∙ c .before .before .n .given .1) (ap Read (c .call .ensures))
 
 returns-2 : tie.Need-returns-2
 unfolding numbered
-returns-2 c = rw (no-number (number (c .before .before .before .before .args .digits .now)) (sym (c .before .before .number .ensures) ∙ c .enum-told .given .1))
+returns-2 c = rw (sym (c .before .before .read-number .ensures) ∙ c .enum-told .given .1)
 
 pub numbered-spec : {M : Type 1} → statement M
 numbered-spec =

@@ -8,11 +8,12 @@ use lib.ListN.{length, take, drop, length-take, length-drop, drop-of-length-le}
 use lib.Seq.{take-all}
 use borrow.Author.Needs.{needs}
 use borrow.Author.Tests.{lt-ltb, le-ltb}
-use Rattle.tray_lines.specs.Line.{number, beforeTab, behindTab, joined, lineOf}
+use Rattle.numbers.specs.declared.Number.{Number}
+use Rattle.numbers.specs.declared.Number.the-variants.{Of, Nothing}
+use Rattle.numbers.specs.Decimal.{readNumber}
+use Rattle.numbers.proofs.Laws.{none-given}
+use Rattle.tray_lines.specs.Line.{beforeTab, behindTab, joined, lineOf}
 use Rattle.tray_lines.specs.declared.parse.Line.the-variants.{Unread}
-use Rattle.tray_lines.specs.declared.parse.Number.{Number}
-use Rattle.tray_lines.specs.declared.parse.Number.the-variants.{Of, Nothing}
-use Rattle.tray_lines.proofs.Numbers.{none-given}
 use Rattle.tray_lines.proofs.Tabs.{before-is, behind-is}
 use Rattle.tray_lines.proofs.parse.read_line.Statement.{statement}
 use Rattle.tray_lines.proofs.parse.read_line.Tie as tie
@@ -75,7 +76,7 @@ returns-3 c =
     let line = long .before .before .args .line .now in
     let past : length line ≤ suc (length (beforeTab line)) = omega (arith, c .if2 .left, tab .tab-at .ensures) in
     simp (le-ltb 64 (length line) (long .if1 .left))
-    (rw (behind-is line, drop-of-length-le line past, none-given [] refl) (sym (no-second (number (beforeTab line)))))
+    (rw (behind-is line, drop-of-length-le line past, none-given [] refl) (sym (no-second (readNumber (beforeTab line)))))
 
 pub read-line-spec : {M : Type 1} → statement M
 read-line-spec =

@@ -1,4 +1,4 @@
--- `tray_lines::parse::read_number` meets its contract. The loop's invariant: the first digits spell the value, and the rest is still to be judged.
+-- The loop's invariant: the first digits spell the value, and the rest is still to be judged.
 use Prim.Native.Nat.{_-_, _<_, _≤_}
 use mathlib.Core.Path.{_≡_, refl, sym, _∙_, ap}
 use mathlib.Core.Bool.{true, false}
@@ -7,13 +7,14 @@ use native.Mathlib.Omega.{arith}
 use borrow.Author.Needs.{needs}
 use borrow.Author.Tests.{eq-eqb, ne-eqb, le-leb, lt-leb}
 use lib.ListN.{length, getD}
-use Rattle.tray_lines.specs.Line.{leadsWithZero}
-use Rattle.tray_lines.proofs.Numbers.{none-given, too-many, one-digit, digits-more, zero-leads, SoFar, begun, stopped, gone-on, fits-on, over, complete}
-use Rattle.tray_lines.proofs.parse.read_number.Statement.{statement}
-use Rattle.tray_lines.proofs.parse.read_number.Tie as tie
+use Rattle.numbers.specs.Decimal.{leadsWithZero}
+use Rattle.numbers.proofs.Laws.{none-given, too-many, one-digit, digits-more, zero-leads}
+use Rattle.numbers.proofs.Loop.{ReadSoFar, at-start, at-other-byte, after-digit, next-fits, ends-too-large, ends-as-number}
+use Rattle.numbers.proofs.read_number.Statement.{statement}
+use Rattle.numbers.proofs.read_number.Tie as tie
 
 abbrev Inv-loop : tie.InvT-loop
-Inv-loop digits n value₀ i₀ value i = SoFar digits n value i
+Inv-loop digits n value₀ i₀ value i = ReadSoFar digits n value i
 
 abbrev μ-loop : tie.MeasureT-loop
 μ-loop digits n value₀ i₀ value i = n - i
@@ -35,31 +36,31 @@ loop-holds c =
     let ds = c .before .before .before .args .digits .now in
     let plain : leadsWithZero ds ≡ false =
     ⊎-elim (λ w. digits-more ds (w .0 .taken) ∙ ne-eqb _ _ (w .2 .left)) (λ w. one-digit ds (w .left)) (c .if3 .came) in
-    begun ds (omega arith) (omega arith) plain
+    at-start ds (omega arith) (omega arith) plain
 
 returns-4 : tie.Need-returns-4 Inv-loop μ-loop
 returns-4 c =
-    rw (stopped (c .before .before .before .loop .inv) (c .before .before .loop-test .taken) (simp (lt-leb 48 _ (c .if5 .taken))))
+    rw (at-other-byte (c .before .before .before .loop .inv) (c .before .before .loop-test .taken) (simp (lt-leb 48 _ (c .if5 .taken))))
 
 returns-5 : tie.Need-returns-5 Inv-loop μ-loop
 returns-5 c =
     rw
-    (stopped (c .before .before .before .before .loop .inv) (c .before .before .before .loop-test .taken) (simp (le-leb 48 _ (c .before .if5 .left), lt-leb _ 57 (c .if6 .taken))))
+    (at-other-byte (c .before .before .before .before .loop .inv) (c .before .before .before .loop-test .taken) (simp (le-leb 48 _ (c .before .if5 .left), lt-leb _ 57 (c .if6 .taken))))
 
 mul-value : tie.Need-mul-value Inv-loop μ-loop
-mul-value c = omega (arith, fits-on (c .before .before .before .before .loop .inv) (c .before .before .before .loop-test .taken))
+mul-value c = omega (arith, next-fits (c .before .before .before .before .loop .inv) (c .before .before .before .loop-test .taken))
 
 add-value : tie.Need-add-value Inv-loop μ-loop
-add-value c = omega (arith, fits-on (c .before .before .before .before .loop .inv) (c .before .before .before .loop-test .taken))
+add-value c = omega (arith, next-fits (c .before .before .before .before .loop .inv) (c .before .before .before .loop-test .taken))
 
 loop-again : tie.Need-loop-again Inv-loop μ-loop
-loop-again c = gone-on (c .before .before .before .before .loop .inv) (c .before .before .before .loop-test .taken) (c .before .if5 .left) (c .if6 .left)
+loop-again c = after-digit (c .before .before .before .before .loop .inv) (c .before .before .before .loop-test .taken) (c .before .if5 .left) (c .if6 .left)
 
 returns-6 : tie.Need-returns-6 Inv-loop μ-loop
-returns-6 c = rw (over (c .before .before .loop .inv) (c .before .loop-test .left) (c .if7 .taken))
+returns-6 c = rw (ends-too-large (c .before .before .loop .inv) (c .before .loop-test .left) (c .if7 .taken))
 
 returns-7 : tie.Need-returns-7 Inv-loop μ-loop
-returns-7 c = rw (complete (c .before .before .loop .inv) (c .before .loop-test .left) (c .if7 .left))
+returns-7 c = rw (ends-as-number (c .before .before .loop .inv) (c .before .loop-test .left) (c .if7 .left))
 
 pub read-number-spec : {M : Type 1} → statement M
 read-number-spec =
