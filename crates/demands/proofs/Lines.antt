@@ -25,15 +25,15 @@ use Rattle.pretree.proofs.Writing.{same-capacity}
 use Rattle.numbers.specs.declared.Number.{Number}
 use Rattle.lines.specs.declared.Line.{Line}
 use Rattle.lines.specs.declared.Line.the-variants.{Read, Unread}
-use Rattle.lines.specs.declared.Said.{Said}
+use Rattle.lines.specs.declared.ReplyFields.{ReplyFields}
 use Rattle.lines.specs.Line.{parse}
-use Rattle.lines.specs.Render.{asNumber, saidOf, replyLine, keyLines}
+use Rattle.lines.specs.Render.{asNumber, fieldsOf, replyLine, keyLines}
 use Rattle.lines.specs.Output.{State, start, Step, listedIn, listedBy, answer, written, writtenFor, linesOf, output}
 use Rattle.demands.specs.Program.{State as Between, outcome}
 use Rattle.demands.specs.Expected.{Kept, only, expected, kept-after, changed}
 use Rattle.demands.specs.RowsRead.{rowsOver, movedOver, refusedOver, Reports}
 use Rattle.demands.specs.Demand2.{Keeps, HoldsKept}
-use Rattle.demands.specs.Lines.{Kind, makes, lists, works, kindOf, finds-no-set, noSet, said-on-set, listed-on-set, said-to, listed-to, kept-after-line, dictated, no-set-yet, OutputDictated}
+use Rattle.demands.specs.Lines.{Kind, makes, lists, works, kindOf, finds-no-set, noSet, fields-on-set, listed-on-set, fields-to, listed-to, kept-after-line, dictated, no-set-yet, OutputDictated}
 use Rattle.demands.proofs.Owned.{new-kept}
 use Rattle.demands.proofs.Demand2.{answers-as, empty-holds}
 use Rattle.demands.proofs.History.{reports-as}
@@ -52,7 +52,7 @@ record Serving (s : State) (k : Kept) : Type 0 where
 
 -- a line is answered by what the dictionary says to it
 record Dictated (line : Line) (s : State) (k : Kept) : Type 0 where
-  says : answer s line .said ≡ said-to line s k
+  says : answer s line .fields ≡ fields-to line s k
   listing : answer s line .listed ≡ listed-to line k
   goes-on : Serving (answer s line .state) (kept-after-line line k)
 
@@ -119,17 +119,17 @@ module _ (c : Call) (s : State) (k : Kept) (same-buffer : s .buffer ≡ k .buffe
   found : finds-no-set (kindOf c) (k .width) ≡ false
   found = set-found (kindOf c) (k .width) some-width
 
-  says-on-set : saidOf (left .reply) ≡ said-on-set c s k
+  says-on-set : fieldsOf (left .reply) ≡ fields-on-set c s k
   says-on-set =
       let refused : Bool = refusedOver c (k .width) (k .set) 4096 (length (k .buffer)) in
-      same-said (ap (λ x. x .number) (keeps .answer)) (ap (λ x. asNumber (x .key)) (keeps .answer)) (reports .rows-read) (reports .moving-count)
+      same-fields (ap (λ x. x .number) (keeps .answer)) (ap (λ x. asNumber (x .key)) (keeps .answer)) (reports .rows-read) (reports .moving-count)
     where
-      same-said : {a a′ rows rows′ moved moved′ : ℕ} {key key′ : Number} → a ≡ a′ → key ≡ key′ → rows ≡ rows′ → moved ≡ moved′
-          → _≡_ {A = Said} (record { answer = a; key = key; rows = rows; moved = moved }) (record { answer = a′; key = key′; rows = rows′; moved = moved′ })
-      same-said e f g h = rw (e, f, g, h)
+      same-fields : {a a′ rows rows′ moved moved′ : ℕ} {key key′ : Number} → a ≡ a′ → key ≡ key′ → rows ≡ rows′ → moved ≡ moved′
+          → _≡_ {A = ReplyFields} (record { answer = a; key = key; rows = rows; moved = moved }) (record { answer = a′; key = key′; rows = rows′; moved = moved′ })
+      same-fields e f g h = rw (e, f, g, h)
 
   on-set : Dictated (Read c) s k
-  unfolding answer said-to listed-to kept-after-line
+  unfolding answer fields-to listed-to kept-after-line
   on-set =
       record {
         says = rw found says-on-set;
@@ -189,7 +189,7 @@ new-or-none Call.List = inr refl
 -- where there is no set yet
 module _ (s : State) (k : Kept) (same-buffer : s .buffer ≡ k .buffer) (room : capacity (s .table) ≡ 4096) (at-start : s .header ≡ fresh 0) (no-width : k .width ≡ 0) where
   none-found : (c : Call) → finds-no-set (kindOf c) 0 ≡ true → Dictated (Read c) s k
-  unfolding answer said-to listed-to kept-after-line numberOf keyOf
+  unfolding answer fields-to listed-to kept-after-line numberOf keyOf
   none-found c finds =
       let left : after c (s .header) (s .table) (s .buffer) ≡ record { reply = refused (fresh 0) WrongHeader; table = s .table; buffer = s .buffer } =
       ap (λ h. after c h (s .table) (s .buffer)) at-start ∙ no-set-left c (s .table) (s .buffer) finds in
@@ -204,7 +204,7 @@ module _ (s : State) (k : Kept) (same-buffer : s .buffer ≡ k .buffer) (room : 
   new-room w = same-capacity (newTable (s .table) w) (s .table) (new-kept (s .table) w .same-length) ∙ room
 
   makes-one : (w : ℕ) → Dictated (Read (New w)) s k
-  unfolding answer after newReply newTable said-to listed-to kept-after-line kept-after changed expected refusedOver rowsOver movedOver listedBy numberOf keyOf
+  unfolding answer after newReply newTable fields-to listed-to kept-after-line kept-after changed expected refusedOver rowsOver movedOver listedBy numberOf keyOf
   makes-one w = by-cases (wrong-width w) refl
     where
       by-cases : (b : Bool) → wrong-width w ≡ b → Dictated (Read (New w)) s k
@@ -229,7 +229,7 @@ module _ (s : State) (k : Kept) (same-buffer : s .buffer ≡ k .buffer) (room : 
   no-set c = elim (new-or-none c) [ inl new ↦ subst (λ c. Dictated (Read c) s k) (sym (new .1)) (makes-one (new .0)) | inr finds ↦ none-found c finds ]
 
 dictated-line : (line : Line) (s : State) (k : Kept) → Serving s k → Dictated line s k
-unfolding answer said-to listed-to kept-after-line
+unfolding answer fields-to listed-to kept-after-line
 dictated-line Unread s k serving = record { says = refl; listing = refl; goes-on = record { same-buffer = serving .same-buffer; room = serving .room; standing = serving .standing } }
 dictated-line (Read c) s k serving = by-cases (serving .standing)
   where
@@ -247,7 +247,7 @@ unfolding writtenFor dictated written
 lines-dictated [] s k serving = refl
 lines-dictated (line ∷ rest) s k serving =
     let d : Dictated (parse line) s k = dictated-line (parse line) s k serving in
-    let text : written (answer s (parse line)) ≡ replyLine (suc (s .lines)) (said-to (parse line) s k) ++ keyLines (listed-to (parse line) k) =
+    let text : written (answer s (parse line)) ≡ replyLine (suc (s .lines)) (fields-to (parse line) s k) ++ keyLines (listed-to (parse line) k) =
     rw (counted s (parse line), d .says, d .listing) in
     ap₂ _++_ text
     (lines-dictated rest (answer s (parse line) .state) (kept-after-line (parse line) k) (d .goes-on))

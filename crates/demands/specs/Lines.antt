@@ -12,7 +12,7 @@ use Rattle.pretree.specs.declared.Call.the-variants.{New, Add, Del, Has, Next, 
 use Rattle.numbers.specs.declared.Number.the-variants.{Nothing}
 use Rattle.lines.specs.declared.Line.{Line}
 use Rattle.lines.specs.declared.Line.the-variants.{Read, Unread}
-use Rattle.lines.specs.declared.Said.{Said}
+use Rattle.lines.specs.declared.ReplyFields.{ReplyFields}
 use Rattle.lines.specs.Line.{parse}
 use Rattle.lines.specs.Render.{asNumber, notRead, replyLine, keyLines}
 use Rattle.lines.specs.Output.{State, start, answer, linesOf, output}
@@ -47,13 +47,13 @@ finds-no-set lists width = eqb width 0
 finds-no-set works width = eqb width 0
 
 -- "header W 0": a reply with the number 2
-abbrev pub noSet : Said
+abbrev pub noSet : ReplyFields
 noSet = record { answer = 2; key = Nothing; rows = 0; moved = 0 }
 
 -- what the reply line says to a call on a set: the dictionary's number and key; the rows of its ways over the PreTree of the set; and the
 -- moving count, which depends on the table
-abbrev pub said-on-set : Call → State → Kept → Said
-said-on-set c s k =
+abbrev pub fields-on-set : Call → State → Kept → ReplyFields
+fields-on-set c s k =
     let refused : Bool = refusedOver c (k .width) (k .set) 4096 (length (k .buffer)) in
     record {
       answer = expected c 4096 k .number;
@@ -68,9 +68,9 @@ listed-on-set makes number set = []
 listed-on-set works number set = []
 listed-on-set lists number set = if eqb number 0 then set else []
 
-unfoldable pub said-to : Line → State → Kept → Said
-said-to Unread s k = notRead
-said-to (Read c) s k = if finds-no-set (kindOf c) (k .width) then noSet else said-on-set c s k
+unfoldable pub fields-to : Line → State → Kept → ReplyFields
+fields-to Unread s k = notRead
+fields-to (Read c) s k = if finds-no-set (kindOf c) (k .width) then noSet else fields-on-set c s k
 
 unfoldable pub listed-to : Line → Kept → List ℕ
 listed-to Unread k = []
@@ -84,7 +84,7 @@ kept-after-line (Read c) k = if finds-no-set (kindOf c) (k .width) then k else k
 unfoldable pub dictated : State → Kept → List (List ℕ) → List ℕ
 dictated s k [] = []
 dictated s k (line ∷ rest) =
-    (replyLine (suc (s .lines)) (said-to (parse line) s k) ++ keyLines (listed-to (parse line) k))
+    (replyLine (suc (s .lines)) (fields-to (parse line) s k) ++ keyLines (listed-to (parse line) k))
     ++ dictated (answer s (parse line) .state) (kept-after-line (parse line) k) rest
 
 -- for every input

@@ -1,4 +1,4 @@
--- The digits of a number: how they go on from digit to digit, how many there are, and that they read back as the number.
+-- The digits of a number, one by one, and how many there are.
 use Prim.Native.Nat.{ℕ, zero, suc, _+_, _*_, _-_, _/_, _%_, _^_, _≤_, _<_}
 use mathlib.Core.Path.{_≡_, refl, sym, ap, _∙_}
 use mathlib.Core.Bool.{Bool, true, false}
@@ -13,7 +13,7 @@ use Rattle.ordered.specs.Such.{if_then_else_}
 use Rattle.lines.specs.Render.{digit, digitsWithin, digits, field}
 use Rattle.lines.proofs.Tests.{either}
 
--- with one place more than is used, the last digit comes off
+-- the last digit, and the digits before it
 last-within : (k n : ℕ) → n < 10 → digitsWithin (suc k) n ≡ digit n ∷ []
 unfolding digitsWithin
 last-within k n h = simp (lt-ltb n 10 h)
@@ -22,7 +22,7 @@ more-within : (k n : ℕ) → 10 ≤ n → digitsWithin (suc k) n ≡ digitsWith
 unfolding digitsWithin
 more-within k n h = simp (le-ltb n 10 h)
 
--- so many places as the number is large are enough
+-- more places than the number itself give all its digits
 enough : (k j n : ℕ) → n < k → n < j → digitsWithin k n ≡ digitsWithin j n
 enough zero j n h l = absurd (omega arith)
 enough (suc k) zero n h l = absurd (omega arith)
@@ -42,7 +42,7 @@ pub more-digits : (n : ℕ) → 10 ≤ n → digits n ≡ digits (n / 10) ++ dig
 unfolding digits
 more-digits n h = more-within n n h ∙ rw (enough n (suc (n / 10)) (n / 10) (omega arith) (omega arith))
 
--- by the last digit of a number
+-- induction over the digits of a number
 pub by-digits : (P : ℕ → Type 0) → ((n : ℕ) → n < 10 → P n) → ((n : ℕ) → 10 ≤ n → P (n / 10) → P n) → (n : ℕ) → P n
 by-digits P last more n = go (suc n) n (omega arith)
   where

@@ -1,4 +1,4 @@
--- A session that takes its input part by part.
+-- A session takes its input part by part.
 use Prim.Native.Nat.{ℕ, zero, suc, _+_, _*_, _-_, _^_, _≤_, _<_}
 use mathlib.Core.Path.{_≡_, refl, sym, ap, _∙_}
 use mathlib.Core.Bool.{true, false}
@@ -11,18 +11,18 @@ use lib.ListN.{length, take, drop, length-drop}
 use lib.Seq.{take-add, drop-drop}
 use Rattle.lines.specs.Line.{parse}
 use Rattle.lines.specs.Render.{Put}
-use Rattle.lines.specs.Output.{State, Session, answer, writtenFor, stateAfter, ended, unended, taken, told}
-use Rattle.lines.specs.Gather.{untilEnd, Held}
-use Rattle.lines.specs.declared.session.Session.{Session as Kept}
-use Rattle.lines.specs.declared.session.Went.{Went}
-use Rattle.lines.specs.Answering.{stateOf, sessionOf, Answers, Feeds, Fed, Moves}
+use Rattle.lines.specs.Output.{State, Session, answer, writtenFor, stateAfter, ended, unended, sessionAfter, writtenForPiece}
+use Rattle.lines.specs.Gather.{untilEnd, HoldsLine}
+use Rattle.lines.specs.declared.session.Session.{Session as CodeSession}
+use Rattle.lines.specs.declared.session.Progress.{Progress}
+use Rattle.lines.specs.Answering.{stateOf, sessionOf, Answers, Feeds, FeedsFromHeld, Advances}
 use Rattle.lines.proofs.Tests.{either}
 use Rattle.lines.proofs.Puts.{put-then}
-use Rattle.lines.proofs.Pieces.{ended-here, ended-later, unended-here, unended-later, taken-append, told-append}
+use Rattle.lines.proofs.Pieces.{ended-here, ended-later, unended-here, unended-later, session-append, written-piece-append}
 use Rattle.lines.proofs.Gathering.{until-first, until-later, no-line-ends, held-none, parse-held}
 
--- a line is read as well from what is held of it
-pub parse-gathered : {buffer : List ℕ} {count : ℕ} {line : List ℕ} → Held buffer count line → parse (take count buffer) ≡ parse line
+-- a line reads the same from what is held of it
+pub parse-gathered : {buffer : List ℕ} {count : ℕ} {line : List ℕ} → HoldsLine buffer count line → parse (take count buffer) ≡ parse line
 parse-gathered {line} h = ap parse (h .content) ∙ parse-held line
 
 pub until-within : (input : List ℕ) → untilEnd input ≤ length input
@@ -51,17 +51,17 @@ one-line line (b ∷ input) h =
     ))
     (either (eqb b 10))
 
--- no input changes nothing
-pub feeds-nothing : (s : Session) {buffer : List ℕ} {count : ℕ} (out : List ℕ) → Held buffer count (s .line) → Feeds s [] (s .state) buffer count out 0 out 0
-unfolding taken told stateAfter writtenFor ended unended
+-- an empty input changes nothing
+pub feeds-nothing : (s : Session) {buffer : List ℕ} {count : ℕ} (out : List ℕ) → HoldsLine buffer count (s .line) → Feeds s [] (s .state) buffer count out 0 out 0
+unfolding sessionAfter writtenForPiece stateAfter writtenFor ended unended
 feeds-nothing s out h = record { state = refl; held = h; put = record { content = refl; place = refl } }
 
 module _ (s : Session) (input : List ℕ) where
   -- a part in which no line ends is held
   pub feeds-part :
-      {buffer out : List ℕ} {count at : ℕ} → length input ≤ untilEnd input → Held buffer count (s .line ++ input)
+      {buffer out : List ℕ} {count at : ℕ} → length input ≤ untilEnd input → HoldsLine buffer count (s .line ++ input)
       → Feeds s input (s .state) buffer count out at out at
-  unfolding taken told stateAfter writtenFor
+  unfolding sessionAfter writtenForPiece stateAfter writtenFor
   feeds-part none h =
       let r = no-line-ends (s .line) input none in
       record { state = rw (r .0); held = rw (r .1) h; put = rw (r .0) (record { content = refl; place = sym (add-zero _) }) }
@@ -71,7 +71,7 @@ module _ (s : Session) (input : List ℕ) where
       (buffer : List ℕ) {out left : List ℕ} {at next : ℕ} {after : State} → untilEnd input < length input
       → Answers (answer (s .state) (parse (s .line ++ take (untilEnd input) input))) after out at left next
       → Feeds s (take (suc (untilEnd input)) input) after buffer 0 out at left next
-  unfolding taken told stateAfter writtenFor
+  unfolding sessionAfter writtenForPiece stateAfter writtenFor
   feeds-line buffer some a =
       let r = one-line (s .line) input some in
       record {
@@ -80,20 +80,20 @@ module _ (s : Session) (input : List ℕ) where
         put = rw (r .0, append-nil) (a .put);
       }
 
-  -- a second input behind the first
+  -- a second input after the first
   pub feeds-then :
       (more : List ℕ) {after last : State} {buffer hold out left end : List ℕ} {count held at next to : ℕ} → Feeds s input after buffer count out at left next
-      → Feeds (record { state = after; line = taken s input .line }) more last hold held left next end to
+      → Feeds (record { state = after; line = sessionAfter s input .line }) more last hold held left next end to
       → Feeds s (input ++ more) last hold held out at end to
   feeds-then more {after} f g =
-      let e : taken s input ≡ record { state = after; line = taken s input .line } = rw (f .state) in
+      let e : sessionAfter s input ≡ record { state = after; line = sessionAfter s input .line } = rw (f .state) in
       record {
-        state = rw (taken-append s input more, e) (g .state);
-        held = rw (taken-append s input more, e) (g .held);
-        put = rw (told-append s input more, e) (put-then (f .put) (g .put));
+        state = rw (session-append s input more, e) (g .state);
+        held = rw (session-append s input more, e) (g .held);
+        put = rw (written-piece-append s input more, e) (put-then (f .put) (g .put));
       }
 
--- two stretches of a piece, one behind the other
+-- two stretches of a piece, one after the other
 pub stretches :
     (piece : List ℕ) (from middle to : ℕ) → from ≤ middle → middle ≤ to
     → take (middle - from) (drop from piece) ++ take (to - middle) (drop middle piece) ≡ take (to - from) (drop from piece)
@@ -102,18 +102,18 @@ stretches piece from middle to h l =
     let d : from + (middle - from) ≡ middle = omega arith in
     rw (m, take-add (middle - from) (to - middle) (drop from piece), drop-drop (middle - from) from piece, d)
 
--- how the loop over a piece stands: what it began with, and what it has
-pub record Going
-    (piece : List ℕ) (from : ℕ) (table₀ words₀ buffer₀ out₀ : List ℕ) (most : ℕ) (went₀ : Went) (table words buffer out : List ℕ) (went : Went)
+-- the invariant of the loop of `feed`: what it began with, and what it has
+pub record FeedLoop
+    (piece : List ℕ) (from : ℕ) (table₀ words₀ buffer₀ out₀ : List ℕ) (most : ℕ) (progress₀ : Progress) (table words buffer out : List ℕ) (progress : Progress)
     : Type 0 where
-  pub feeds : Fed (went₀ .session) table₀ words₀ buffer₀ out₀ 0 (take (went .from - from) (drop from piece)) went table words buffer out
-  pub onward : from ≤ went .from
-  pub first : went .from ≡ from → went .next ≡ 0
-  pub within : went .from ≤ length piece
-  pub fits : went .next ≤ length out
-  pub held : went .session .held ≤ 65
-  pub lines : went .session .lines + from ≤ went₀ .session .lines + went .from
-  pub few : went₀ .session .lines + length piece < 2 ^ 64 + from
+  pub feeds : FeedsFromHeld (progress₀ .session) table₀ words₀ buffer₀ out₀ 0 (take (progress .from - from) (drop from piece)) progress table words buffer out
+  pub onward : from ≤ progress .from
+  pub first : progress .from ≡ from → progress .next ≡ 0
+  pub within : progress .from ≤ length piece
+  pub fits : progress .next ≤ length out
+  pub held : progress .session .held ≤ 65
+  pub lines : progress .session .lines + from ≤ progress₀ .session .lines + progress .from
+  pub few : progress₀ .session .lines + length piece < 2 ^ 64 + from
   pub room : most ≡ 65 + 15 * length words
   pub enough : most ≤ length out
   pub table-size : length table ≡ length table₀
@@ -122,25 +122,25 @@ pub record Going
   pub holds : length buffer ≡ 65
   pub out-size : length out ≡ length out₀
 
-module _ {piece : List ℕ} {from : ℕ} {table₀ words₀ buffer₀ out₀ : List ℕ} {most : ℕ} {went₀ : Went} {table words buffer out : List ℕ} {went : Went}
-    (g : Going piece from table₀ words₀ buffer₀ out₀ most went₀ table words buffer out went) where
-  -- one step more
-  pub gone-on :
-      {rows list hold left : List ℕ} {r : Went}
-      → Fed (went .session) table words buffer out (went .next) (take (r .from - went .from) (drop (went .from) piece)) r rows list hold left
-      → Moves (went .from) (length piece) (length left) (went .session) r
+module _ {piece : List ℕ} {from : ℕ} {table₀ words₀ buffer₀ out₀ : List ℕ} {most : ℕ} {progress₀ : Progress} {table words buffer out : List ℕ} {progress : Progress}
+    (g : FeedLoop piece from table₀ words₀ buffer₀ out₀ most progress₀ table words buffer out progress) where
+  -- after one more step
+  pub after-step :
+      {rows list hold left : List ℕ} {r : Progress}
+      → FeedsFromHeld (progress .session) table words buffer out (progress .next) (take (r .from - progress .from) (drop (progress .from) piece)) r rows list hold left
+      → Advances (progress .from) (length piece) (length left) (progress .session) r
       → length rows ≡ length table → length list ≡ length words → length hold ≡ length buffer → length left ≡ length out
-      → Going piece from table₀ words₀ buffer₀ out₀ most went₀ rows list hold left r
-  gone-on {rows} {list} {hold} {left} {r} f m t w b o =
+      → FeedLoop piece from table₀ words₀ buffer₀ out₀ most progress₀ rows list hold left r
+  after-step {rows} {list} {hold} {left} {r} f m t w b o =
       record {
         feeds =
             λ line h.
             let first = g .feeds line h in
-            rw (← stretches piece from (went .from) (r .from) (g .onward) (omega (arith, m .onward)))
-            (feeds-then (sessionOf (went₀ .session .header) table₀ words₀ (went₀ .session .lines) line) (take (went .from - from) (drop from piece))
-            (take (r .from - went .from) (drop (went .from) piece))
+            rw (← stretches piece from (progress .from) (r .from) (g .onward) (omega (arith, m .onward)))
+            (feeds-then (sessionOf (progress₀ .session .header) table₀ words₀ (progress₀ .session .lines) line) (take (progress .from - from) (drop from piece))
+            (take (r .from - progress .from) (drop (progress .from) piece))
             first
-            (f (taken (sessionOf (went₀ .session .header) table₀ words₀ (went₀ .session .lines) line) (take (went .from - from) (drop from piece)) .line) (first .held)));
+            (f (sessionAfter (sessionOf (progress₀ .session .header) table₀ words₀ (progress₀ .session .lines) line) (take (progress .from - from) (drop from piece)) .line) (first .held)));
         onward = omega (arith, m .onward, g .onward);
         first = λ e. absurd (omega (arith, m .onward, g .onward));
         within = m .within;
@@ -157,6 +157,6 @@ module _ {piece : List ℕ} {from : ℕ} {table₀ words₀ buffer₀ out₀ : L
         out-size = omega (arith, g .out-size);
       }
 
-  -- where the loop is left, it went onward
-  pub went-onward : (went .from ≡ from → ⊥) → Moves from (length piece) (length out) (went₀ .session) went
-  went-onward h = record { onward = omega (arith, g .onward); within = g .within; fits = g .fits; held = g .held; lines = g .lines }
+  -- where the loop ends it has advanced
+  pub loop-advances : (progress .from ≡ from → ⊥) → Advances from (length piece) (length out) (progress₀ .session) progress
+  loop-advances h = record { onward = omega (arith, g .onward); within = g .within; fits = g .fits; held = g .held; lines = g .lines }

@@ -1,4 +1,4 @@
--- Where lines end, and what is held of one that has not ended.
+-- Where lines end, and what is held of a line that has not ended.
 use Prim.Native.Nat.{ℕ, zero, suc, _+_, _-_, _≤_, _<_, min}
 use mathlib.Core.Path.{_≡_, refl, sym, ap, _∙_}
 use mathlib.Core.Bool.{true, false}
@@ -15,13 +15,13 @@ use Rattle.lines.specs.declared.Line.the-variants.{Unread}
 use Rattle.lines.specs.Line.{parse}
 use Rattle.lines.specs.Render.{Put}
 use Rattle.lines.specs.Output.{ended, unended}
-use Rattle.lines.specs.Gather.{untilEnd, Held}
+use Rattle.lines.specs.Gather.{untilEnd, HoldsLine}
 use Rattle.lines.proofs.Tests.{either}
 use Rattle.lines.proofs.Heads.{long-unread}
 use Rattle.lines.proofs.Puts.{put-then, put-length, put-byte}
 use Rattle.lines.proofs.Pieces.{ended-here, ended-later, unended-here, unended-later}
 
--- the byte at i ends the line, or goes on with it, or there is none
+-- the byte at i ends the line or continues it, or there is no such byte
 module _ (input : List ℕ) (i : ℕ) where
   pub until-none : length input ≤ i → untilEnd (drop i input) ≡ 0
   unfolding untilEnd
@@ -74,16 +74,16 @@ no-line-ends line (b ∷ input) h =
     (ended-later line b input f ∙ r .0, unended-later line b input f ∙ r .1 ∙ rw append-assoc))
     (either (eqb b 10))
 
--- the first i bytes of a part are copied behind `count` bytes
-pub record Copied (before : List ℕ) (count : ℕ) (part : List ℕ) (most : ℕ) (buffer : List ℕ) (i : ℕ) : Type 0 where
+-- the invariant of the loop of `hold`: the first i bytes of a part are copied after `count` bytes
+pub record CopyLoop (before : List ℕ) (count : ℕ) (part : List ℕ) (most : ℕ) (buffer : List ℕ) (i : ℕ) : Type 0 where
   pub put : Put before count (take i part) buffer (count + i)
   pub within : i ≤ most
   pub some : most ≡ min (length part) (length before - count)
   pub room : count ≤ length before
 
-module _ {before : List ℕ} {count : ℕ} {part : List ℕ} {most : ℕ} {buffer : List ℕ} {i : ℕ} (s : Copied before count part most buffer i) where
-  pub one-copied : i < most → Copied before count part most (set buffer (count + i) (getD part i 0)) (i + 1)
-  one-copied h =
+module _ {before : List ℕ} {count : ℕ} {part : List ℕ} {most : ℕ} {buffer : List ℕ} {i : ℕ} (s : CopyLoop before count part most buffer i) where
+  pub copy-next : i < most → CopyLoop before count part most (set buffer (count + i) (getD part i 0)) (i + 1)
+  copy-next h =
       let p = put-then (s .put) (put-byte (getD part i 0)) in
       let inside : i < length part = omega arith in
       record {
@@ -110,21 +110,21 @@ module _ {before : List ℕ} {count : ℕ} {part : List ℕ} {most : ℕ} {buffe
       (either (ltb (length before - count) (length part))) in
       record { content = rw e at (s .put .content); place = rw (← e) (omega (arith, s .put .place)) }
 
--- what is held of a line, with a part more behind it
+-- what is held of a line, with one more part after it
 take-both : {A : Type 0} (n : ℕ) (xs ys : List A) → take n (xs ++ ys) ≡ take n xs ++ take (n - length (take n xs)) ys
 take-both zero xs ys = refl
 take-both (suc n) [] ys = rw sub-zero
 take-both (suc n) (x ∷ xs) ys = rw (take-both n xs ys, suc-sub-suc)
 
-pub held-none : (buffer : List ℕ) → Held buffer 0 []
+pub held-none : (buffer : List ℕ) → HoldsLine buffer 0 []
 held-none buffer = record { content = refl; number = refl }
 
 -- in a buffer of 65 bytes
-module _ {buffer : List ℕ} {count : ℕ} {line : List ℕ} (h : Held buffer count line) (size : length buffer ≡ 65) where
+module _ {buffer : List ℕ} {count : ℕ} {line : List ℕ} (h : HoldsLine buffer count line) (size : length buffer ≡ 65) where
   pub few-held : count ≤ 65
   few-held = omega (arith, length-take 65 line)
 
-  pub held-more : (part : List ℕ) {after : List ℕ} {next : ℕ} → Put buffer count (take (length buffer - count) part) after next → Held after next (line ++ part)
+  pub held-more : (part : List ℕ) {after : List ℕ} {next : ℕ} → Put buffer count (take (length buffer - count) part) after next → HoldsLine after next (line ++ part)
   held-more part {after} {next} p =
       let more = take (65 - count) part in
       let fits : count + length more ≤ length buffer = omega (arith, few-held, length-take (65 - count) part) in
@@ -132,9 +132,9 @@ module _ {buffer : List ℕ} {count : ℕ} {line : List ℕ} (h : Held buffer co
       let front : length (take count buffer ++ more) ≡ next =
       rw length-append (omega (arith, length-take-le count buffer (omega (arith, few-held)), rw size at (p .place))) in
       let all : after ≡ (take count buffer ++ more) ++ drop (count + length more) buffer = rw size at (p .content) ∙ sets-eq more buffer count fits in
-      let taken : take next after ≡ take 65 (line ++ part) =
+      let front-bytes : take next after ≡ take 65 (line ++ part) =
       rw (all, both, ← h .content) (take-at (take count buffer ++ more) (drop (count + length more) buffer) next front) in
-      record { content = taken; number = rw (both, ← h .content) (sym front) }
+      record { content = front-bytes; number = rw (both, ← h .content) (sym front) }
 
 pub parse-held : (line : List ℕ) → parse (take 65 line) ≡ parse line
 parse-held line =

@@ -18,7 +18,7 @@ use Rattle.lines.specs.Line.{parse, afterWord, Form, with-number, alone,
 use Rattle.lines.specs.Head.{packed, headOf, afterHead, byHead}
 use Rattle.lines.proofs.Tests.{either, both}
 
--- four bytes are the first of a word
+-- a word begins with four bytes
 abbrev isLong : List ℕ → Bool
 isLong [] = false
 isLong (a ∷ []) = false
@@ -31,7 +31,7 @@ allLong [] = true
 allLong (with-number word call ∷ fs) = isLong (bytes word ++ bytes "\t") && allLong fs
 allLong (alone word call ∷ fs) = isLong (bytes word) && allLong fs
 
--- two ways to find what is behind a word, which agree on such words, read the same call
+-- two ways to find what comes after a word read the same call if they agree on such words
 pub same-read :
     (p q : List ℕ → Perhaps (List ℕ)) → ((word : List ℕ) → T (isLong word) → p word ≡ q word) → (fs : List Form) → T (allLong fs)
     → firstRead p fs ≡ firstRead q fs
@@ -43,7 +43,7 @@ same-read p q h (alone word call ∷ fs) t =
     let b = both (isLong (bytes word)) (allLong fs) t in
     rw (h (bytes word) (b .0), same-read p q h fs (b .1))
 
--- a word does not begin a line that is shorter
+-- a word does not begin a shorter line
 pub too-short : (word line : List ℕ) → length line < length word → afterWord word line ≡ no-such
 unfolding afterWord
 too-short [] line h = absurd (omega arith)
@@ -68,7 +68,7 @@ pub long-unread : (line : List ℕ) → 64 < length line → parse line ≡ Unre
 unfolding parse
 long-unread line h = simp (lt-ltb 64 (length line) h)
 
--- bytes are told apart by the number into which they are packed
+-- four bytes are told apart by the number into which they are packed
 module _ (a e : ℕ) {b c d f g h : ℕ} (bs : b < 256) (cs : c < 256) (ds : d < 256) (fs : f < 256) (gs : g < 256) (hs : h < 256) where
   unpacked : packed e f g h ≡ packed a b c d → (a ≡ e) × (b ≡ f) × (c ≡ g) × (d ≡ h)
   unpacked same =
@@ -107,7 +107,7 @@ module _ (a e : ℕ) {b c d f g h : ℕ} (bs : b < 256) (cs : c < 256) (ds : d <
           (λ (q : eqb a e ≡ false). simp q)
           (either (eqb a e))
 
--- the first four bytes of a line, which are bytes
+-- a line of 4 to 64 bytes is read by its head and its rest
 pub by-head :
     (line : List ℕ) → 4 ≤ length line → length line ≤ 64 → ((i : ℕ) → getD line i 0 < 256) → parse line ≡ byHead (headOf line) (drop 4 line)
 unfolding parse byHead
@@ -129,12 +129,12 @@ by-head (e ∷ f ∷ g ∷ h ∷ rest) l m small =
         let r = both (ltb c 256) (ltb d 256) (q .1) in
         after-four a e (ltb→lt b 256 (q .0)) (ltb→lt c 256 (r .0)) (ltb→lt d 256 (r .1)) (small 1) (small 2) (small 3) word rest
 
--- where no other form fits
+-- if no other form fits
 pub only : {line : Line} (p : Perhaps Call) → line ≡ lineOf p → line ≡ lineOf (first-of p no-such)
 only no-such h = h
 only (such call) h = h
 
--- one byte more behind the head
+-- one more byte after the head
 module _ (b : ℕ) where
   pub after-none : (rest : List ℕ) → length rest ≡ 0 → afterWord (b ∷ []) rest ≡ no-such
   unfolding afterWord

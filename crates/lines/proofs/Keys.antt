@@ -10,7 +10,7 @@ use Rattle.pretree.specs.declared.Answer.the-variants.{Done, Word, Distance, Wr
 use Rattle.pretree.specs.Answer.{keyOf}
 use Rattle.pretree.proofs.Answer.{the-type}
 
--- the places of these answers among all
+-- the tags of these answers
 abbrev keyless : List ℕ
 keyless = 0 ∷ 3 ∷ 4 ∷ 5 ∷ 6 ∷ 7 ∷ 8 ∷ 9 ∷ 10 ∷ []
 

@@ -1,17 +1,26 @@
-pub mod Tests
-pub mod Heads
-pub mod Digits
+-- The proof files by what they serve. The proof of a function is in the folder of its source file, as parse/numbered/Proof.antt.
+
+-- promises of docs/PROMISES.md: `any-pieces` and `written-by-end`; `answers-nine`; `reads-back`; `example-agrees`
+pub mod Pieces
+pub mod NotRead
 pub mod ReadBack
+pub mod Examples
+-- reading a line: `parse`, `by_head` and the functions that it calls
+pub mod Heads
+-- answering a line: `run_read_only`; `key_of`; `run`, `reply_to` and `answer`
+pub mod ReadOnly
+pub mod Keys
+pub mod Running
+-- writing a reply: all of src/put.rt; `places`, and `reads-back`; `put_number`; `put_keys`
 pub mod Puts
+pub mod Digits
 pub mod Spelling
 pub mod KeyLines
-pub mod Pieces
+-- taking in a piece: `line_end` and `hold`; `step`; `feed`
 pub mod Gathering
-pub mod Keys
-pub mod Looking
-pub mod Running
-pub mod Feeding
 pub mod Stepping
+pub mod Feeding
+-- the loops over standard input: `serve`, `answer_piece`, `put_piece`, `turns_left`
 pub mod Serving
-pub mod NotRead
-pub mod Examples
+-- for all of these
+pub mod Tests

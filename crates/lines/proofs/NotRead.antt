@@ -35,7 +35,7 @@ nothing-such e = let z : _≡_ {A = ℕ} 0 1 = cc in omega arith
 never-read : {call : Call} → Unread ≡ Read call → ⊥
 never-read e = let z : _≡_ {A = ℕ} 0 1 = cc in omega arith
 
--- a word stands at the front of a line, and this is behind it
+-- a line begins with a word, and `rest` comes after it
 is-behind : (word rest : List ℕ) → afterWord word (word ++ rest) ≡ such rest
 unfolding afterWord
 is-behind [] rest = refl
@@ -51,7 +51,7 @@ behind-is (b ∷ word) (c ∷ line) e =
     (λ (f : eqb b c ≡ false). absurd (nothing-such (rw f at e)))
     (either (eqb b c))
 
--- two words that differ at a place that both have do not both begin a line
+-- two words that differ at a place that both have cannot both begin a line
 abbrev differ : List ℕ → List ℕ → Bool
 differ [] y = false
 differ (a ∷ x) [] = false
@@ -74,7 +74,7 @@ not-both (a ∷ x) (b ∷ y) (c ∷ line) d e =
     (λ (f : eqb a c ≡ false). absurd (nothing-such (rw f at e)))
     (either (eqb a c))
 
--- what a form has in every line, and the call by what stands behind that
+-- how every line of a form begins, and the call from what comes after that
 abbrev opening : Form → List ℕ
 opening (with-number word of) = bytes word ++ bytes "\t"
 opening (alone word of) = bytes word
@@ -87,7 +87,7 @@ abbrev differs : Form → List Form → Bool
 differs f [] = true
 differs f (g ∷ gs) = differ (opening g) (opening f) && differs f gs
 
--- no line can be of two of the forms
+-- no line fits two of the forms
 abbrev allDiffer : List Form → Bool
 allDiffer [] = true
 allDiffer (f ∷ fs) = differs f fs && allDiffer fs
@@ -132,7 +132,7 @@ module _ (line : List ℕ) where
       by-cases no-such a later = let r = later (rw a at e) in (r .0, List·Memᴰ·tail (r .1), r .2)
       by-cases (such c) a later = (f, List·Memᴰ·head refl, a ∙ (rw a at e))
 
-  -- a line that a form reads spells the call, and the other way round
+  -- a line that a form reads spells the call, and conversely
   rest-spells :
       (f : Form) (rest : List ℕ) {call : Call} → f ∈ operations → line ≡ opening f ++ rest → callBy f rest ≡ such call → length line ≤ 64
       → Spells call line
@@ -180,7 +180,7 @@ module _ (line : List ℕ) where
       from : Spells call line → parse line ≡ Read call
       from s = let r = spells-form s in parse-short (r .3) ∙ ap lineOf (read-first (r .1) tt (r .2))
 
-  -- and is not read exactly when it spells none
+  -- a line is not read exactly when it spells no call
   pub spells-none : (parse line ≡ Unread) ↔ ((call : Call) → Spells call line → ⊥)
   spells-none = (λ e call s. never-read (sym e ∙ reads call .1 s), λ none. by-cases (parse line) refl none)
     where
@@ -203,12 +203,12 @@ below-nine ShortBuffer = omega arith
 below-nine AlreadyThere = omega arith
 below-nine NoSuchWord = omega arith
 
-nine-unread : (s : State) (l : Line) → answer s l .said .answer ≡ 9 → l ≡ Unread
+nine-unread : (s : State) (l : Line) → answer s l .fields .answer ≡ 9 → l ≡ Unread
 unfolding answer
 nine-unread s (Read call) e = absurd (omega (arith, below-nine (after call (s .header) (s .table) (s .buffer) .reply .answer)))
 nine-unread s Unread e = refl
 
-unread-refused : (s : State) → (answer s Unread .said .answer ≡ 9) × Refused s (answer s Unread)
+unread-refused : (s : State) → (answer s Unread .fields .answer ≡ 9) × Refused s (answer s Unread)
 unfolding answer
 unread-refused s =
     (refl, record { key = refl; rows = refl; moved = refl; listed = refl; header = refl; table = refl; buffer = refl; lines = refl })

@@ -7,10 +7,10 @@ use mathlib.Core.Logic.{_⊎_, inl, inr, ⊎-elim}
 use lib.Dec.{eqb}
 use Rattle.lines.specs.Line.{parse}
 use Rattle.lines.specs.Output.{State, answer, writtenFor, stateAfter, ended, unended, last, linesOf, output}
-use Rattle.lines.specs.Output.{Session, opened, taken, told, toldAtEnd, inPieces, joined}
+use Rattle.lines.specs.Output.{Session, startSession, sessionAfter, writtenForPiece, writtenAtEnd, outputInPieces, joined}
 use Rattle.lines.proofs.Tests.{either}
 
--- byte 10 ends a line, and any other byte goes on with it
+-- byte 10 ends a line, and any other byte continues it
 module _ (line : List ℕ) (b : ℕ) (input : List ℕ) where
   pub ended-here : eqb b 10 ≡ true → ended line (b ∷ input) ≡ line ∷ ended [] input
   unfolding ended
@@ -28,7 +28,7 @@ module _ (line : List ℕ) (b : ℕ) (input : List ℕ) where
   unfolding unended
   unended-later f = simp f
 
--- the lines that end in two pieces, and what is left behind them
+-- the lines that end in two pieces, and the bytes left after them
 pub ended-append : (line xs ys : List ℕ) → ended line (xs ++ ys) ≡ ended line xs ++ ended (unended line xs) ys
 unfolding ended unended
 ended-append line [] ys = refl
@@ -60,26 +60,26 @@ written-append s (l ∷ ls) ms = rw (written-append (answer s (parse l) .state) 
 
 module _ (s : Session) where
   -- a piece may be cut in two
-  pub taken-append : (xs ys : List ℕ) → taken s (xs ++ ys) ≡ taken (taken s xs) ys
-  unfolding taken
-  taken-append xs ys = rw (ended-append (s .line) xs ys, unended-append (s .line) xs ys, state-append)
+  pub session-append : (xs ys : List ℕ) → sessionAfter s (xs ++ ys) ≡ sessionAfter (sessionAfter s xs) ys
+  unfolding sessionAfter
+  session-append xs ys = rw (ended-append (s .line) xs ys, unended-append (s .line) xs ys, state-append)
 
-  pub told-append : (xs ys : List ℕ) → told s (xs ++ ys) ≡ told s xs ++ told (taken s xs) ys
-  unfolding told taken
-  told-append xs ys = rw (ended-append (s .line) xs ys, written-append)
+  pub written-piece-append : (xs ys : List ℕ) → writtenForPiece s (xs ++ ys) ≡ writtenForPiece s xs ++ writtenForPiece (sessionAfter s xs) ys
+  unfolding writtenForPiece sessionAfter
+  written-piece-append xs ys = rw (ended-append (s .line) xs ys, written-append)
 
--- what is written for pieces is what is written for all of them as one
-pub pieces-as-one : (s : Session) (pieces : List (List ℕ)) → inPieces s pieces ≡ told s (joined pieces) ++ toldAtEnd (taken s (joined pieces))
-unfolding inPieces joined told taken ended unended writtenFor stateAfter
+-- what is written for pieces is what is written for all of them joined
+pub pieces-as-one : (s : Session) (pieces : List (List ℕ)) → outputInPieces s pieces ≡ writtenForPiece s (joined pieces) ++ writtenAtEnd (sessionAfter s (joined pieces))
+unfolding outputInPieces joined writtenForPiece sessionAfter ended unended writtenFor stateAfter
 pieces-as-one s [] = refl
-pieces-as-one s (p ∷ ps) = rw (pieces-as-one (taken s p) ps, told-append s p (joined ps), taken-append s p (joined ps), append-assoc)
+pieces-as-one s (p ∷ ps) = rw (pieces-as-one (sessionAfter s p) ps, written-piece-append s p (joined ps), session-append s p (joined ps), append-assoc)
 
 -- the output of an input does not depend on how it was cut into pieces
-pub any-pieces : (pieces : List (List ℕ)) → inPieces opened pieces ≡ output (joined pieces)
-unfolding output linesOf told taken toldAtEnd
-any-pieces pieces = rw (pieces-as-one opened pieces, written-append)
+pub any-pieces : (pieces : List (List ℕ)) → outputInPieces startSession pieces ≡ output (joined pieces)
+unfolding output linesOf writtenForPiece sessionAfter writtenAtEnd
+any-pieces pieces = rw (pieces-as-one startSession pieces, written-append)
 
--- a byte 10 behind bytes that are left tells what is told of them at the end of input, which is how `put_piece` ends their line
-pub told-by-end : (s : Session) (b : ℕ) (line : List ℕ) → s .line ≡ b ∷ line → told s (10 ∷ []) ≡ toldAtEnd s
-unfolding told toldAtEnd ended
-told-by-end s b line h = rw h
+-- If bytes are left, a byte 10 after them gives what is written for them at the end of input. So `put_piece` ends their line.
+pub written-by-end : (s : Session) (b : ℕ) (line : List ℕ) → s .line ≡ b ∷ line → writtenForPiece s (10 ∷ []) ≡ writtenAtEnd s
+unfolding writtenForPiece writtenAtEnd ended
+written-by-end s b line h = rw h

@@ -1,4 +1,4 @@
--- Texts put into a buffer one behind the other.
+-- Texts put into a buffer one after the other.
 use Prim.Native.Nat.{ℕ, zero, suc, _+_, _≤_}
 use mathlib.Core.Path.{_≡_, refl, sym, ap, _∙_}
 use mathlib.Core.List.{List, [], _∷_, _++_, append-assoc}
@@ -13,7 +13,7 @@ module _ {A : Type 0} where
   sets-append [] ys l i = rw add-zero
   sets-append (a ∷ xs) ys l i = rw (add-suc, ← suc-add) (sets-append xs ys (set l i a) (suc i))
 
-  -- the last one may be stored first
+  -- the last element may be stored first
   pub sets-last : (xs : List A) (d : A) (l : List A) (i : ℕ) → sets (set l (i + length xs) d) i xs ≡ sets l i (xs ++ d ∷ [])
   sets-last [] d l i = rw add-zero
   sets-last (a ∷ xs) d l i =

@@ -19,11 +19,11 @@ use Rattle.pretree.specs.declared.Call.{Call}
 use Rattle.pretree.specs.declared.Call.the-variants.{New, Add, Del, Has, Next, Prev, Gap, First, Last, Audit}
 use Rattle.lines.specs.declared.Line.{Line}
 use Rattle.lines.specs.declared.Line.the-variants.{Read, Unread}
-use Rattle.lines.specs.declared.answer.Ran.{Ran}
-use Rattle.lines.specs.declared.answer.Heard.{Heard}
+use Rattle.lines.specs.declared.answer.CallResult.{CallResult}
+use Rattle.lines.specs.declared.answer.LineReply.{LineReply}
 use Rattle.lines.specs.Render.{notRead, replyLine, keyLines, Put}
 use Rattle.lines.specs.Output.{State, listedIn, listedBy, answer, written}
-use Rattle.lines.specs.Answering.{Runs, heardOf, stateOf, Hears, Answers}
+use Rattle.lines.specs.Answering.{Runs, lineReplyOf, stateOf, Replies, Answers}
 use Rattle.lines.proofs.Tests.{either}
 use Rattle.lines.proofs.Puts.{put-then}
 
@@ -60,25 +60,25 @@ listed-within h t b Audit = omega arith
 
 -- a line whose call was run, and a line that is not read
 module _ (s : State) where
-  pub call-heard :
-      (call : Call) {r : Ran} {rows words : List ℕ} → Runs call (after call (s .header) (s .table) (s .buffer)) r rows words → length words ≡ length (s .buffer)
-      → Hears (answer s (Read call)) (s .lines) (heardOf r) rows words
+  pub call-replies :
+      (call : Call) {r : CallResult} {rows words : List ℕ} → Runs call (after call (s .header) (s .table) (s .buffer)) r rows words → length words ≡ length (s .buffer)
+      → Replies (answer s (Read call)) (s .lines) (lineReplyOf r) rows words
   unfolding answer written
-  call-heard call h size =
+  call-replies call h size =
       record {
         state = rw (h .reply, h .table, h .buffer, add-one);
         written = rw (h .reply, h .listed, h .buffer, add-one);
         within = omega (arith, listed-within (s .header) (s .table) (s .buffer) call, h .listed);
       }
 
-  pub unread-heard : Hears (answer s Unread) (s .lines) (record { header = s .header; said = notRead; listed = 0 }) (s .table) (s .buffer)
+  pub unread-replies : Replies (answer s Unread) (s .lines) (record { header = s .header; fields = notRead; listed = 0 }) (s .table) (s .buffer)
   unfolding answer written keyLines
-  unread-heard = record { state = rw add-one; written = rw add-one; within = omega arith }
+  unread-replies = record { state = rw add-one; written = rw add-one; within = omega arith }
 
-  -- what is to be written was put
-  pub heard-answered :
-      (read : Line) {r : Heard} {next-header : Header} {rows words out middle left : List ℕ} {at next end to : ℕ} → Hears (answer s read) (s .lines) r rows words
-      → next-header ≡ r .header → Put out at (replyLine (s .lines + 1) (r .said)) middle next → Put middle next (keyLines (take (r .listed) words)) left end
+  -- the reply was put into the buffer
+  pub reply-answers :
+      (read : Line) {r : LineReply} {next-header : Header} {rows words out middle left : List ℕ} {at next end to : ℕ} → Replies (answer s read) (s .lines) r rows words
+      → next-header ≡ r .header → Put out at (replyLine (s .lines + 1) (r .fields)) middle next → Put middle next (keyLines (take (r .listed) words)) left end
       → to ≡ end → to ≤ length left
       → Answers (answer s read) (stateOf next-header rows words (s .lines + 1)) out at left to
-  heard-answered read h e p q t f = record { state = rw e (h .state); put = rw (t, ← h .written) (put-then p q); fits = f }
+  reply-answers read h e p q t f = record { state = rw e (h .state); put = rw (t, ← h .written) (put-then p q); fits = f }

@@ -9,8 +9,8 @@ use Rattle.lines.specs.Render.{digit, digits, Put}
 use Rattle.lines.proofs.Digits.{last-digit, more-digits, last-places, more-places, some-places}
 use Rattle.lines.proofs.Puts.{sets-last}
 
--- the digits of `rest` are still to come before the place i; then the buffer has all digits of n up to `end`
-pub record Spelling (before : List ℕ) (at n end : ℕ) (out : List ℕ) (i rest : ℕ) : Type 0 where
+-- The invariant of the loop of `put_number`: once the digits of `rest` are written before the place i, the buffer has all digits of n up to `end`.
+pub record DigitsLoop (before : List ℕ) (at n end : ℕ) (out : List ℕ) (i rest : ℕ) : Type 0 where
   pub whole : sets out at (digits rest) ≡ sets before at (digits n)
   pub size : length out ≡ length before
   pub place : i ≡ at + length (digits rest)
@@ -18,11 +18,11 @@ pub record Spelling (before : List ℕ) (at n end : ℕ) (out : List ℕ) (i res
   pub fits : end ≤ length before
   pub within : i ≤ end
 
-module _ {before : List ℕ} {at n end : ℕ} {out : List ℕ} {i rest : ℕ} (s : Spelling before at n end out i rest) where
+module _ {before : List ℕ} {at n end : ℕ} {out : List ℕ} {i rest : ℕ} (s : DigitsLoop before at n end out i rest) where
   pub some-left : 1 ≤ i
   some-left = omega (arith, some-places rest)
 
-  pub one-more : 10 ≤ rest → Spelling before at n end (set out (i - 1) (digit (rest % 10))) (i - 1) (rest / 10)
+  pub one-more : 10 ≤ rest → DigitsLoop before at n end (set out (i - 1) (digit (rest % 10))) (i - 1) (rest / 10)
   one-more h =
       let here : i - 1 ≡ at + length (digits (rest / 10)) = omega (arith, more-places rest h) in
       record {

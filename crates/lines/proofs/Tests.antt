@@ -1,4 +1,4 @@
--- Small laws of tests.
+-- Laws of Booleans.
 use mathlib.Core.Path.{_≡_, refl}
 use mathlib.Core.Bool.{Bool, true, false, _&&_}
 use mathlib.Core.Logic.{_⊎_, inl, inr}

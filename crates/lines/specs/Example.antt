@@ -1,5 +1,5 @@
--- The example of document 01, "The line program": its input and its whole output; and lines at the edges of the language. That the
--- definitions give it is shown in proofs/Examples.antt.
+-- The example of document 01, "The line program": its input and its whole output; and lines at the edges of the language.
+-- proofs/Examples.antt shows that the definitions give these.
 use Prim.Native.Nat.{ℕ}
 use Prim.Native.String.{String}
 use mathlib.Core.List.{List, [], _∷_, _++_}

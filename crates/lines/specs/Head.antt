@@ -1,5 +1,5 @@
--- How the code finds a line's word: by the first four bytes of the line as one number, its head. Every word of the language, with its tab
--- where it has one, is at least as long. That this is `parse` is shown in proofs/Heads.antt.
+-- How the code finds a line's word: by the first four bytes of the line as one number, its head. Every word of the language is at least four
+-- bytes long, with its tab where it has one. proofs/Heads.antt shows that this gives `parse`.
 use Prim.Native.Nat.{ℕ, _+_, _*_}
 use mathlib.Core.List.{List, [], _∷_}
 use lib.Dec.{eqb}
@@ -19,7 +19,7 @@ packed a b c d = ((a * 256 + b) * 256 + c) * 256 + d
 abbrev pub headOf : List ℕ → ℕ
 headOf bytes = packed (getD bytes 0 0) (getD bytes 1 0) (getD bytes 2 0) (getD bytes 3 0)
 
--- what stands behind a word in the line with this head and this rest
+-- what comes after a word in the line with this head and this rest
 abbrev pub afterHead : ℕ → List ℕ → List ℕ → Perhaps (List ℕ)
 afterHead head rest word = if eqb head (headOf word) then afterWord (drop 4 word) rest else no-such
 
@@ -35,7 +35,7 @@ callOf W.Next k = Next k
 callOf W.Prev k = Prev k
 callOf W.Gap k = Gap k
 
--- the call of a word by what stands behind its head: a number, or one byte and a number; or nothing, or one byte
+-- the call of a word from what comes after its head: a number, or one byte and a number; or nothing, or one byte
 unfoldable pub numbered : Word → List ℕ → Perhaps Call
 numbered word digits = called (callOf word) (readNumber digits)
 

@@ -1,6 +1,7 @@
 -- What one line means, from its bytes without the byte 10 that ends it.
 -- Document 01: "One of `new`, `add`, `del`, `has`, `next`, `prev`, `gap`, then one tab and a number; or `first`, `last`, `list`, `audit` with
--- nothing after. [..] Anything else, a line above 64 bytes (its byte 10 not counted) or an empty line included, is answer 9."
+-- nothing after. [..] Anything else, a line above 64 bytes (its byte 10 not counted) or an empty line included, is answer 9." Crate `numbers` says
+-- what a number is.
 use Prim.Native.Nat.{ℕ}
 use Prim.Native.String.{String}
 use mathlib.Core.List.{List, [], _∷_, _++_}
@@ -16,7 +17,7 @@ use Rattle.lines.specs.declared.Line.{Line}
 use Rattle.lines.specs.declared.Line.the-variants.{Read, Unread}
 use Rattle.lines.specs.Text.{bytes}
 
--- what stands after a word with which a line begins
+-- what comes after a word at the beginning of a line
 unfoldable pub afterWord : List ℕ → List ℕ → Perhaps (List ℕ)
 afterWord [] line = such line
 afterWord (b ∷ word) [] = no-such
@@ -54,7 +55,7 @@ abbrev pub if-nothing : Call → List ℕ → Perhaps Call
 if-nothing call [] = such call
 if-nothing call (b ∷ rest) = no-such
 
--- the call of a form, by what stands behind a word
+-- the call of a form, from what comes after a word
 abbrev pub readAs : (List ℕ → Perhaps (List ℕ)) → Form → Perhaps Call
 readAs behind (with-number word call) = with-rest (λ rest. called call (readNumber rest)) (behind (bytes word ++ bytes "\t"))
 readAs behind (alone word call) = with-rest (if-nothing call) (behind (bytes word))

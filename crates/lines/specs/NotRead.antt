@@ -1,6 +1,6 @@
 -- Answer 9. Document 01: "One of `new`, `add`, `del`, `has`, `next`, `prev`, `gap`, then one tab and a number; or `first`, `last`, `list`,
 -- `audit` with nothing after. [..] Anything else, a line above 64 bytes (its byte 10 not counted) or an empty line included, is answer 9."
--- Line.antt reads a line; here is what it is to spell a call, and the claim that a line is read exactly when it spells one.
+-- Line.antt reads a line. This file says what it means to spell a call, and that a line is read exactly when it spells one.
 use Prim.Native.Nat.{ℕ, suc, _≤_}
 use Prim.Native.String.{String}
 use mathlib.Core.Path.{_≡_}
@@ -27,9 +27,9 @@ pub data Spells (call : Call) (line : List ℕ) : Type 0 where
 
 -- "1 to 6 and 9 are refusals: counts 0, header, table and buffer untouched." The line is counted.
 pub record Refused (s : State) (a : Step) : Type 0 where
-  pub key : a .said .key ≡ Nothing
-  pub rows : a .said .rows ≡ 0
-  pub moved : a .said .moved ≡ 0
+  pub key : a .fields .key ≡ Nothing
+  pub rows : a .fields .rows ≡ 0
+  pub moved : a .fields .moved ≡ 0
   pub listed : a .listed ≡ []
   pub header : a .state .header ≡ s .header
   pub table : a .state .table ≡ s .table
@@ -41,6 +41,6 @@ pub record AnswersNine (s : State) (line : List ℕ) : Type 0 where
   -- a line is read as the call that it spells, and "Anything else [..] is answer 9."
   pub read : (call : Call) → (parse line ≡ Read call) ↔ Spells call line
   pub unread : (parse line ≡ Unread) ↔ ((call : Call) → Spells call line → ⊥)
-  -- 9 is the answer exactly where a line is not read
-  pub nine : (answer s (parse line) .said .answer ≡ 9) ↔ (parse line ≡ Unread)
+  -- the answer is 9 exactly when the line is not read
+  pub nine : (answer s (parse line) .fields .answer ≡ 9) ↔ (parse line ≡ Unread)
   pub refused : parse line ≡ Unread → Refused s (answer s (parse line))

@@ -1,4 +1,4 @@
--- The whole output for a whole input, as one function from the bytes read to the bytes written; and the same for an input that comes in
+-- The whole output for a whole input, as one function from the bytes read to the bytes written; and the output for an input that comes in
 -- pieces. Document 01, "The line program".
 use Prim.Native.Nat.{ℕ, suc, _*_}
 use mathlib.Core.List.{List, [], _∷_, _++_}
@@ -15,22 +15,22 @@ use Rattle.pretree.specs.declared.Call.{Call}
 use Rattle.pretree.specs.declared.Call.the-variants.{New, Add, Del, Has, Next, Prev, Gap, First, Last, Audit}
 use Rattle.lines.specs.declared.Line.{Line}
 use Rattle.lines.specs.declared.Line.the-variants.{Read, Unread}
-use Rattle.lines.specs.declared.Said.{Said}
+use Rattle.lines.specs.declared.ReplyFields.{ReplyFields}
 use Rattle.lines.specs.Line.{parse}
-use Rattle.lines.specs.Render.{saidOf, notRead, replyLine, keyLines}
+use Rattle.lines.specs.Render.{fieldsOf, notRead, replyLine, keyLines}
 
 pub record State : Type 0 where
   pub header : Header
   pub table : List ℕ
   pub buffer : List ℕ
-  -- the lines that were answered
+  -- how many lines were answered
   pub lines : ℕ
 
 -- "Table of 4,096 rows, all zeros, and a `list` buffer of 4,096 words. Header at the start: W 0, count 0."
 abbrev pub start : State
 start = record { header = fresh 0; table = replicate (rowWords * 4096) 0; buffer = replicate 4096 0; lines = 0 }
 
--- how many words of the buffer are listed behind a reply: "After a `list` with answer 0"
+-- how many words of the buffer are listed after a reply: "After a `list` with answer 0"
 abbrev pub listedIn : Reply → ℕ
 listedIn r = if eqb (numberOf (r .answer)) 0 then r .header .count else 0
 
@@ -47,32 +47,32 @@ listedBy Last r = 0
 listedBy Call.List r = listedIn r
 listedBy Audit r = 0
 
--- the state after a line, what its reply says, and the words that are listed behind it
+-- the state after a line, the fields of its reply line, and the words listed after it
 pub record Step : Type 0 where
   pub state : State
-  pub said : Said
+  pub fields : ReplyFields
   pub listed : List ℕ
 
 unfoldable pub answer : State → Line → Step
 answer s Unread =
     record {
       state = record { header = s .header; table = s .table; buffer = s .buffer; lines = suc (s .lines) };
-      said = notRead;
+      fields = notRead;
       listed = [];
     }
 answer s (Read call) =
     let a : After = after call (s .header) (s .table) (s .buffer) in
     record {
       state = record { header = a .reply .header; table = a .table; buffer = a .buffer; lines = suc (s .lines) };
-      said = saidOf (a .reply);
+      fields = fieldsOf (a .reply);
       listed = take (listedBy call (a .reply)) (a .buffer);
     }
 
 -- "Each line gives one reply line: line number from 1 [..]"
 unfoldable pub written : Step → List ℕ
-written a = replyLine (a .state .lines) (a .said) ++ keyLines (a .listed)
+written a = replyLine (a .state .lines) (a .fields) ++ keyLines (a .listed)
 
--- what is written for lines, one after the other, and the state after them
+-- what is written for a list of lines, and the state after them
 unfoldable pub writtenFor : State → List (List ℕ) → List ℕ
 writtenFor s [] = []
 writtenFor s (line ∷ rest) = let a : Step = answer s (parse line) in written a ++ writtenFor (a .state) rest
@@ -81,7 +81,7 @@ unfoldable pub stateAfter : State → List (List ℕ) → State
 stateAfter s [] = s
 stateAfter s (line ∷ rest) = stateAfter (answer s (parse line) .state) rest
 
--- "A line ends with byte 10": the lines that end in an input, and the bytes that are left, where `line` has come before it
+-- "A line ends with byte 10": the lines that end in an input, and the bytes that are left. `line` has the bytes that came before.
 unfoldable pub ended : List ℕ → List ℕ → List (List ℕ)
 ended line [] = []
 ended line (b ∷ input) =
@@ -109,28 +109,29 @@ linesOf input = ended [] input ++ last (unended [] input)
 unfoldable pub output : List ℕ → List ℕ
 output input = writtenFor start (linesOf input)
 
--- An input that comes in pieces: what is kept between two of them is the state after the lines that have ended, and the bytes of the one
--- that has not.
+-- An input that comes in pieces. Between two pieces a session keeps the state after the lines that have ended, and the bytes of the line that
+-- has not.
 pub record Session : Type 0 where
   pub state : State
   pub line : List ℕ
 
-abbrev pub opened : Session
-opened = record { state = start; line = [] }
+abbrev pub startSession : Session
+startSession = record { state = start; line = [] }
 
-unfoldable pub taken : Session → List ℕ → Session
-taken s piece = record { state = stateAfter (s .state) (ended (s .line) piece); line = unended (s .line) piece }
+unfoldable pub sessionAfter : Session → List ℕ → Session
+sessionAfter s piece = record { state = stateAfter (s .state) (ended (s .line) piece); line = unended (s .line) piece }
 
-unfoldable pub told : Session → List ℕ → List ℕ
-told s piece = writtenFor (s .state) (ended (s .line) piece)
+-- what is written for the lines that end in a piece, and at the end of input
+unfoldable pub writtenForPiece : Session → List ℕ → List ℕ
+writtenForPiece s piece = writtenFor (s .state) (ended (s .line) piece)
 
-unfoldable pub toldAtEnd : Session → List ℕ
-toldAtEnd s = writtenFor (s .state) (last (s .line))
+unfoldable pub writtenAtEnd : Session → List ℕ
+writtenAtEnd s = writtenFor (s .state) (last (s .line))
 
 -- all that is written for the pieces and at their end
-unfoldable pub inPieces : Session → List (List ℕ) → List ℕ
-inPieces s [] = toldAtEnd s
-inPieces s (piece ∷ pieces) = told s piece ++ inPieces (taken s piece) pieces
+unfoldable pub outputInPieces : Session → List (List ℕ) → List ℕ
+outputInPieces s [] = writtenAtEnd s
+outputInPieces s (piece ∷ pieces) = writtenForPiece s piece ++ outputInPieces (sessionAfter s piece) pieces
 
 unfoldable pub joined : List (List ℕ) → List ℕ
 joined [] = []

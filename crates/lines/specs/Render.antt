@@ -12,7 +12,7 @@ use Rattle.pretree.specs.declared.Reply.{Reply}
 use Rattle.pretree.specs.Answer.{numberOf, keyOf}
 use Rattle.numbers.specs.declared.Number.{Number}
 use Rattle.numbers.specs.declared.Number.the-variants.{Of, Nothing}
-use Rattle.lines.specs.declared.Said.{Said}
+use Rattle.lines.specs.declared.ReplyFields.{ReplyFields}
 use Rattle.lines.specs.Text.{bytes}
 
 abbrev pub digit : ℕ → ℕ
@@ -26,7 +26,7 @@ digitsWithin (suc k) n =
     if ltb n 10 then digit n ∷ []
     else more
 
--- a number in decimal, without leading zeros. It has no more digits than n + 1.
+-- n in decimal, without leading zeros. It has at most n + 1 digits.
 unfoldable pub digits : ℕ → List ℕ
 digits n = digitsWithin (suc n) n
 
@@ -43,15 +43,15 @@ abbrev pub asNumber : Perhaps ℕ → Number
 asNumber no-such = Nothing
 asNumber (such k) = Of k
 
--- what a reply line says behind its line number
-abbrev pub saidOf : Reply → Said
-saidOf r = record { answer = numberOf (r .answer); key = asNumber (keyOf (r .answer)); rows = r .rows; moved = r .moved }
+-- the fields of a reply line after its line number
+abbrev pub fieldsOf : Reply → ReplyFields
+fieldsOf r = record { answer = numberOf (r .answer); key = asNumber (keyOf (r .answer)); rows = r .rows; moved = r .moved }
 
 -- answer 9: "program only: line not read"
-abbrev pub notRead : Said
+abbrev pub notRead : ReplyFields
 notRead = record { answer = 9; key = Nothing; rows = 0; moved = 0 }
 
-unfoldable pub replyLine : ℕ → Said → List ℕ
+unfoldable pub replyLine : ℕ → ReplyFields → List ℕ
 replyLine line s = digits line ++ field (s .answer) ++ keyField (s .key) ++ field (s .rows) ++ field (s .moved) ++ bytes "\n"
 
 unfoldable pub keyLine : ℕ → List ℕ
@@ -61,7 +61,7 @@ unfoldable pub keyLines : List ℕ → List ℕ
 keyLines [] = []
 keyLines (k ∷ ks) = keyLine k ++ keyLines ks
 
--- a text was put into a buffer at a place, all else there is as it was, and this is the place behind it
+-- a text was put into a buffer at a place, the rest of the buffer is as it was, and `next` is the place after the text
 pub record Put (buffer : List ℕ) (at : ℕ) (text : List ℕ) (left : List ℕ) (next : ℕ) : Type 0 where
   pub content : left ≡ sets buffer at text
   pub place : next ≡ at + length text

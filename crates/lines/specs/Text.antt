@@ -1,4 +1,4 @@
--- A quoted text as its bytes, so that the words of the line language stand here as document 01 prints them.
+-- The bytes of a quoted text. With it the specs have the words of the line language as document 01 prints them.
 use Prim.Native.Nat.{ℕ}
 use Prim.Native.Char.{code}
 use Prim.Native.String.{String}

@@ -1,13 +1,13 @@
-// Answering one line: it is read, its call is run, and the reply is put into a lent buffer.
+// Answering one line: the line is read, its call is run, and the reply is put into a lent buffer.
 
 use crate::Line;
-use crate::Said;
+use crate::ReplyFields;
 use crate::parse::parse;
 use crate::put::put_keys;
 use crate::put::put_reply;
 use crate::reply::not_read;
 use crate::reply::number_of;
-use crate::reply::said;
+use crate::reply::reply_fields;
 use pretree::Call;
 use pretree::Header;
 use pretree::Reply;
@@ -17,50 +17,50 @@ ghost use lib.ListN.{length};
 ghost use Rattle.pretree.specs.Call.{after};
 ghost use Rattle.lines.specs.Line.{parse};
 ghost use Rattle.lines.specs.Output.{answer, listedIn};
-ghost use Rattle.lines.specs.Answering.{looked, Runs, heardOf, stateOf, Hears, Answers};
+ghost use Rattle.lines.specs.Answering.{readOnlyReply, Runs, lineReplyOf, stateOf, Replies, Answers};
 
-// What a call replied, and how many words of the buffer are listed behind the reply.
-pub struct Ran {
+// The reply to a call, and how many words of the buffer are listed after it.
+pub struct CallResult {
     pub reply: Reply,
     pub listed: u32,
 }
 
-fn unlisted(reply: Reply) -> Ran
+fn without_listing(reply: Reply) -> CallResult
     ensures { λ r. ⌜ (r .reply ≡ reply) × (r .listed ≡ 0) ⌝ }
 {
-    Ran { reply, listed: 0 }
+    CallResult { reply, listed: 0 }
 }
 
 // "After a `list` with answer 0"
-fn listed(reply: Reply) -> Ran
+fn with_listing(reply: Reply) -> CallResult
     ensures { λ r. ⌜ (r .reply ≡ reply) × (r .listed ≡ listedIn reply) ⌝ }
 {
     let answer = reply.answer;
     if number_of(answer) == 0 {
-        Ran {
+        CallResult {
             reply,
             listed: reply.header.count,
         }
     } else {
-        Ran { reply, listed: 0 }
+        CallResult { reply, listed: 0 }
     }
 }
 
-pub fn run(call: Call, header: Header, table: &mut [u32], words: &mut [u32]) -> Ran
+pub fn run(call: Call, header: Header, table: &mut [u32], words: &mut [u32]) -> CallResult
     ensures { λ r. ⌜ Runs call (after call header (now (table .entry)) (now (words .entry))) r (now (table .exit)) (now (words .exit)) ⌝ }
 {
     match call {
-        Call::New(width) => unlisted(header.new(table, width)),
-        Call::Add(k) => unlisted(header.add(table, k)),
-        Call::Del(k) => unlisted(header.del(table, k)),
-        Call::List => listed(header.list(table, words)),
-        _ => unlisted(look(call, header, table)),
+        Call::New(width) => without_listing(header.new(table, width)),
+        Call::Add(k) => without_listing(header.add(table, k)),
+        Call::Del(k) => without_listing(header.del(table, k)),
+        Call::List => with_listing(header.list(table, words)),
+        _ => without_listing(run_read_only(call, header, table)),
     }
 }
 
-// The calls that leave the table and the buffer as they are.
-fn look(call: Call, header: Header, table: &[u32]) -> Reply
-    ensures { λ r. ⌜ r ≡ looked header (now (table .entry)) call ⌝ }
+// The calls that change neither the table nor the buffer. `run` passes no other call; one would be taken for `audit`.
+fn run_read_only(call: Call, header: Header, table: &[u32]) -> Reply
+    ensures { λ r. ⌜ r ≡ readOnlyReply header (now (table .entry)) call ⌝ }
 {
     match call {
         Call::Has(k) => header.has(table, k),
@@ -73,20 +73,20 @@ fn look(call: Call, header: Header, table: &[u32]) -> Reply
     }
 }
 
-// What a line did: the header after it, what its reply says, and how many words of the buffer are listed behind the reply.
-pub struct Heard {
+// What a line is replied with: the header after it, the fields of its reply line, and how many words of the buffer are listed after that line.
+pub struct LineReply {
     pub header: Header,
-    pub said: Said,
+    pub fields: ReplyFields,
     pub listed: u32,
 }
 
-// The header after a line, and the place behind its reply.
-pub struct Told {
+// The header after a line, and the place in `out` after its reply.
+pub struct LineResult {
     pub header: Header,
     pub next: usize,
 }
 
-// Answers the line that comes after `lines` lines. A reply takes at most 65 bytes, and 15 for each word that is listed.
+// Answers a line that comes after `lines` lines. A reply takes at most 65 bytes, and 15 more for each listed word.
 pub(crate) fn answer(
     line: &[u8],
     lines: u64,
@@ -95,7 +95,7 @@ pub(crate) fn answer(
     words: &mut [u32],
     out: &mut [u8],
     at: usize,
-) -> Told
+) -> LineResult
     requires { ⌜ lines + 1 < 2 ^ 64 ⌝ }
     requires { ⌜ at + 65 + 15 * length (now words) ≤ length (now out) ⌝ }
     ensures { λ r. ⌜ Answers (answer (stateOf header (now (table .entry)) (now (words .entry)) lines) (parse (now (line .entry))))
@@ -103,42 +103,42 @@ pub(crate) fn answer(
         (now (out .entry)) at (now (out .exit)) (r .next) ⌝ }
 {
     let read = parse(line);
-    let heard = hear(read, header, table, words);
-    let n = heard.listed as usize;
-    let next = put_reply(out, at, lines + 1, heard.said);
+    let reply = reply_to(read, header, table, words);
+    let n = reply.listed as usize;
+    let next = put_reply(out, at, lines + 1, reply.fields);
     let end = put_keys(out, next, &words[..n]);
-    told_of(heard, end)
+    line_result(reply, end)
 }
 
-fn hear(read: Line, header: Header, table: &mut [u32], words: &mut [u32]) -> Heard
-    ensures { λ r. ⌜ ((lines : ℕ) → Hears (answer (stateOf header (now (table .entry)) (now (words .entry)) lines) read) lines
+fn reply_to(read: Line, header: Header, table: &mut [u32], words: &mut [u32]) -> LineReply
+    ensures { λ r. ⌜ ((lines : ℕ) → Replies (answer (stateOf header (now (table .entry)) (now (words .entry)) lines) read) lines
         r (now (table .exit)) (now (words .exit))) ⌝ }
 {
     match read {
-        Line::Read(call) => heard_of(run(call, header, table, words)),
-        Line::Unread => Heard {
+        Line::Read(call) => line_reply(run(call, header, table, words)),
+        Line::Unread => LineReply {
             header,
-            said: not_read(),
+            fields: not_read(),
             listed: 0,
         },
     }
 }
 
-fn told_of(heard: Heard, next: usize) -> Told
-    ensures { λ r. ⌜ (r .header ≡ heard .header) × (r .next ≡ next) ⌝ }
+fn line_result(reply: LineReply, next: usize) -> LineResult
+    ensures { λ r. ⌜ (r .header ≡ reply .header) × (r .next ≡ next) ⌝ }
 {
-    let header = heard.header;
-    Told { header, next }
+    let header = reply.header;
+    LineResult { header, next }
 }
 
-fn heard_of(ran: Ran) -> Heard
-    ensures { λ r. ⌜ r ≡ heardOf ran ⌝ }
+fn line_reply(result: CallResult) -> LineReply
+    ensures { λ r. ⌜ r ≡ lineReplyOf result ⌝ }
 {
-    let reply = ran.reply;
+    let reply = result.reply;
     let header = reply.header;
-    Heard {
+    LineReply {
         header,
-        said: said(reply),
-        listed: ran.listed,
+        fields: reply_fields(reply),
+        listed: result.listed,
     }
 }

@@ -1,4 +1,4 @@
-// Gathering lines from pieces of input: where a line ends, and what is held of one that has not ended.
+// Gathering lines from pieces of input: where a line ends, and which bytes are held of a line that has not ended.
 
 ghost use mathlib.Core.Path.{_≡_};
 ghost use Prim.Native.Nat.{_+_, _-_, _≤_};
@@ -21,7 +21,7 @@ pub(crate) fn line_end(piece: &[u8], from: usize) -> usize
     i
 }
 
-// Holds a part of a line behind the `count` bytes that are held already, but no more than the buffer takes.
+// Holds a part of a line after the `count` bytes that are already held. Bytes past the end of the buffer are dropped.
 pub(crate) fn hold(buffer: &mut [u8], count: usize, part: &[u8]) -> usize
     requires { ⌜ count ≤ length (now buffer) ⌝ }
     ensures { λ r. ⌜ Put (now (buffer .entry)) count (take (length (now (buffer .entry)) - count) (now (part .entry))) (now (buffer .exit)) r ⌝ }

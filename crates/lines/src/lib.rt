@@ -1,7 +1,7 @@
 // The line language of the bench: reading a line, and writing the reply to it.
 // Document 01, "The line program".
 
-// A call run, a line read and a reply said are for crate `raw` too.
+// `answer`, `parse` and `reply` are public because crate `raw` uses them too.
 pub mod answer;
 mod gather;
 pub mod parse;
@@ -20,8 +20,8 @@ pub enum Line {
     Unread,
 }
 
-// What a reply line says behind its line number.
-pub struct Said {
+// The fields of a reply line after its line number.
+pub struct ReplyFields {
     pub answer: u32,
     pub key: Number,
     pub rows: u32,

@@ -8,7 +8,7 @@ ghost use mathlib.Core.Path.{_≡_};
 ghost use Rattle.lines.specs.Line.{parse, if-nothing, lineOf};
 ghost use Rattle.lines.specs.Head.{packed, byHead, callOf, numbered, numberedAfter, aloneAfter};
 
-// The words behind which a number stands.
+// The words that are followed by a number.
 pub enum Word {
     New,
     Add,
@@ -35,7 +35,7 @@ impl Word {
     }
 }
 
-// A word is found by the line's first four bytes, as one number: one comparison for each word, and no loop.
+// Finds the word by the line's first four bytes, taken as one number: one comparison for each word, and no loop.
 pub fn parse(line: &[u8]) -> Line
     ensures { λ r. ⌜ r ≡ parse (now (line .entry)) ⌝ }
 {

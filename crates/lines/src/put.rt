@@ -1,14 +1,14 @@
-// Writing a reply into a lent buffer: specs/Render.antt says what it looks like. Each function puts its bytes at the place `at` and
-// hands back the place behind them. A reply line has at most 65 bytes, and a line of a listed word at most 15.
+// Writing a reply into a lent buffer; specs/Render.antt says what it looks like. Each function puts its bytes at the place `at` and
+// returns the place after them. A reply line has at most 65 bytes, the line of a listed word at most 15.
 
-use crate::Said;
+use crate::ReplyFields;
 use numbers::Number;
 ghost use mathlib.Core.Path.{_≡_};
 ghost use Prim.Native.Nat.{_+_, _*_, _≤_};
 ghost use lib.ListN.{length};
 ghost use Rattle.lines.specs.Render.{digits, field, keyField, replyLine, keyLine, keyLines, Put};
 
-// The digits are counted first and then written from the last to the first.
+// Counts the digits first, then writes them from the last to the first.
 pub(crate) fn put_number(out: &mut [u8], at: usize, n: u64) -> usize
     requires { ⌜ at + length (digits n) ≤ length (now out) ⌝ }
     ensures { λ r. ⌜ Put (now (out .entry)) at (digits n) (now (out .exit)) r ⌝ }
@@ -62,17 +62,17 @@ fn put_key(out: &mut [u8], at: usize, key: Number) -> usize
 }
 
 // "line number from 1, answer number, key or `-`, rows read, moving count, parted by tabs"
-pub(crate) fn put_reply(out: &mut [u8], at: usize, line: u64, said: Said) -> usize
+pub(crate) fn put_reply(out: &mut [u8], at: usize, line: u64, fields: ReplyFields) -> usize
     requires { ⌜ at + 65 ≤ length (now out) ⌝ }
-    ensures { λ r. ⌜ Put (now (out .entry)) at (replyLine line said) (now (out .exit)) r ⌝ }
+    ensures { λ r. ⌜ Put (now (out .entry)) at (replyLine line fields) (now (out .exit)) r ⌝ }
     ensures { λ r. ⌜ r ≤ at + 65 ⌝ }
 {
-    let key = said.key;
+    let key = fields.key;
     let mut next = put_number(out, at, line);
-    next = put_field(out, next, said.answer);
+    next = put_field(out, next, fields.answer);
     next = put_key(out, next, key);
-    next = put_field(out, next, said.rows);
-    next = put_field(out, next, said.moved);
+    next = put_field(out, next, fields.rows);
+    next = put_field(out, next, fields.moved);
     out[next] = b'\n';
     next + 1
 }

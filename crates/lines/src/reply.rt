@@ -1,18 +1,18 @@
-// What a reply line says of a reply: document 01's number and key for each kind of answer.
+// The fields of a reply line: document 01's number and key for each kind of answer.
 
-use crate::Said;
+use crate::ReplyFields;
 use numbers::Number;
 use pretree::Answer;
 use pretree::Reply;
 ghost use mathlib.Core.Path.{_≡_};
 ghost use Rattle.pretree.specs.Answer.{numberOf, keyOf};
-ghost use Rattle.lines.specs.Render.{asNumber, saidOf, notRead};
+ghost use Rattle.lines.specs.Render.{asNumber, fieldsOf, notRead};
 
-pub fn said(reply: Reply) -> Said
-    ensures { λ r. ⌜ r ≡ saidOf reply ⌝ }
+pub fn reply_fields(reply: Reply) -> ReplyFields
+    ensures { λ r. ⌜ r ≡ fieldsOf reply ⌝ }
 {
     let answer = reply.answer;
-    Said {
+    ReplyFields {
         answer: number_of(answer),
         key: key_of(answer),
         rows: reply.rows,
@@ -21,10 +21,10 @@ pub fn said(reply: Reply) -> Said
 }
 
 // Answer 9, "program only: line not read", is a refusal: "counts 0".
-pub fn not_read() -> Said
+pub fn not_read() -> ReplyFields
     ensures { λ r. ⌜ r ≡ notRead ⌝ }
 {
-    Said {
+    ReplyFields {
         answer: 9,
         key: Number::Nothing,
         rows: 0,

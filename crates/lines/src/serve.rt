@@ -1,9 +1,9 @@
-// The line program over standard input and standard output: large reads, and one write for each, or more where `out` is full.
-// What a read puts into `input`, and what a write does, no contract can say. All that lies between them has one: the start, the piece after
-// a read, the session after a piece, and the bytes that are handed to a write. Pieces.antt says that the pieces do not matter.
+// The line program over standard input and standard output: large reads, and one write for each, or more if `out` is full.
+// No contract can say what a read puts into `input`, or what a write does. Everything between them has a contract: the start, the piece after
+// a read, the session after a piece, and the bytes that are handed to a write. How the input is cut into pieces does not matter: proofs/Pieces.antt.
 
+use crate::session::Progress;
 use crate::session::Session;
-use crate::session::Went;
 use crate::session::feed;
 use libc::STDERR_FILENO;
 use libc::STDIN_FILENO;
@@ -12,14 +12,14 @@ use pretree::Header;
 ghost use mathlib.Core.Path.{_≡_};
 ghost use Prim.Native.Nat.{_+_, _*_, _<_, _≤_, _^_};
 ghost use lib.ListN.{length, take};
-ghost use Rattle.lines.specs.Output.{opened};
-ghost use Rattle.lines.specs.Serving.{Sizes, Keeps, Reached, Tells, pieceOf, turnsLeft, Takes};
+ghost use Rattle.lines.specs.Output.{startSession};
+ghost use Rattle.lines.specs.Serving.{Sizes, Keeps, Reached, IsOutput, pieceOf, turnsLeft, Takes};
 
-// Where `./run` waits for the word that all was written.
+// The descriptor where `./run` learns that every reply was written.
 const OUTCOME_FILENO: i32 = 3;
 
-// The session after a piece, and whether all that was told of the piece was written.
-pub struct Spoke {
+// The session after a piece, and whether every reply to it was written.
+pub struct PieceResult {
     pub session: Session,
     pub written: bool,
 }
@@ -47,7 +47,7 @@ pub fn run() {
 }
 
 // A proved loop has to end, and nothing says that the input does. So the loop counts its turns down, from a number that no run uses up:
-// at 65,536 bytes a turn it would have read 2^63 bytes.
+// at 65,536 bytes a turn, that is 2^63 bytes.
 fn serve(
     session: Session,
     input: &mut [u8],
@@ -56,25 +56,25 @@ fn serve(
     buffer: &mut [u8],
     out: &mut [u8],
 )
-    requires { ⌜ Keeps opened session (now table) (now words) (now buffer) ⌝ }
+    requires { ⌜ Keeps startSession session (now table) (now words) (now buffer) ⌝ }
     requires { ⌜ Sizes (now words) (now buffer) (now out) ⌝ }
     requires { ⌜ (0 < length (now input)) × (length (now input) ≤ 65536) ⌝ }
 {
     let mut turns: u64 = 140737488355328;
-    let mut spoke = Spoke {
+    let mut result = PieceResult {
         session,
         written: true,
     };
     while 0 < turns {
         let count = read(input);
-        spoke = take_in(spoke.session, count, input, table, words, buffer, out);
-        turns = turns_left(turns, count, spoke.written);
+        result = take_in(result.session, count, input, table, words, buffer, out);
+        turns = turns_left(turns, count, result.written);
     }
-    finish(spoke.written);
+    finish(result.written);
 }
 
-// A program has no exit status. So it writes `ok` to descriptor 3 once all that was told is written, and `./run` ends with 0 only then. A write
-// that failed is told on standard error.
+// A program has no exit status. So it writes `ok` to descriptor 3 once every reply is written, and `./run` ends with 0 only then. A failed write is
+// reported on standard error.
 fn finish(written: bool) {
     if written {
         io::write_all(OUTCOME_FILENO, b"ok\n");
@@ -83,7 +83,7 @@ fn finish(written: bool) {
     }
 }
 
-// All that the program reads comes through here. The result is the number of bytes at the front of `input`; it is 0 at the end of input.
+// The only place where the program reads. Returns the number of bytes at the front of `input`, which is 0 at the end of input.
 fn read(input: &mut [u8]) -> usize
     ensures { λ r. ⌜ r ≤ length (now (input .exit)) ⌝ }
 {
@@ -104,7 +104,7 @@ fn turns_left(turns: u64, count: usize, written: bool) -> u64
     0
 }
 
-// Takes in what a read of `count` bytes left in `input`.
+// Takes in the `count` bytes that a read left in `input`.
 fn take_in(
     session: Session,
     count: usize,
@@ -113,7 +113,7 @@ fn take_in(
     words: &mut [u32],
     buffer: &mut [u8],
     out: &mut [u8],
-) -> Spoke
+) -> PieceResult
     requires { ⌜ Sizes (now words) (now buffer) (now out) ⌝ }
     requires { ⌜ Reached session (now table) (now words) (now buffer) ⌝ }
     requires { ⌜ (count ≤ length (now input)) × (0 < length (now input)) ⌝ }
@@ -123,7 +123,7 @@ fn take_in(
         r (now (table .exit)) (now (words .exit)) (now (buffer .exit)) ⌝ }
 {
     let n = put_piece(count, session.held, input);
-    speak(session, &input[..n], table, words, buffer, out)
+    answer_piece(session, &input[..n], table, words, buffer, out)
 }
 
 // "or at the end of input if bytes are left": there the last piece is a byte 10, which ends their line.
@@ -142,46 +142,54 @@ fn put_piece(count: usize, held: usize, input: &mut [u8]) -> usize
     1
 }
 
-// Takes in a piece and writes what is told of it, up to a write that fails.
-fn speak(
+// Takes in a piece and writes the replies to it. Stops at a write that fails.
+fn answer_piece(
     session: Session,
     piece: &[u8],
     table: &mut [u32],
     words: &mut [u32],
     buffer: &mut [u8],
     out: &mut [u8],
-) -> Spoke
+) -> PieceResult
     requires { ⌜ Sizes (now words) (now buffer) (now out) ⌝ }
     requires { ⌜ Reached session (now table) (now words) (now buffer) ⌝ }
     requires { ⌜ session .lines + length (now piece) < 2 ^ 64 ⌝ }
     ensures { λ r. ⌜ Takes (now (piece .entry)) session (now (table .entry)) (now (words .entry)) (now (buffer .entry))
         r (now (table .exit)) (now (words .exit)) (now (buffer .exit)) ⌝ }
 {
-    let mut went = Went {
+    let mut progress = Progress {
         session,
         from: 0,
         next: 0,
     };
-    while went.from < piece.len() {
-        went = feed(went.session, piece, went.from, table, words, buffer, out);
-        let n = went.next;
+    while progress.from < piece.len() {
+        progress = feed(
+            progress.session,
+            piece,
+            progress.from,
+            table,
+            words,
+            buffer,
+            out,
+        );
+        let n = progress.next;
         if !write(&out[..n]) {
-            return spoke_of(went, false);
+            return piece_result(progress, false);
         }
     }
-    spoke_of(went, true)
+    piece_result(progress, true)
 }
 
-fn spoke_of(went: Went, written: bool) -> Spoke
-    ensures { λ r. ⌜ (r .session ≡ went .session) × (r .written ≡ written) ⌝ }
+fn piece_result(progress: Progress, written: bool) -> PieceResult
+    ensures { λ r. ⌜ (r .session ≡ progress .session) × (r .written ≡ written) ⌝ }
 {
-    let session = went.session;
-    Spoke { session, written }
+    let session = progress.session;
+    PieceResult { session, written }
 }
 
-// All that the program writes goes through here.
+// The only place where replies are written.
 fn write(text: &[u8]) -> bool
-    requires { ⌜ Tells (now text) ⌝ }
+    requires { ⌜ IsOutput (now text) ⌝ }
 {
     io::write_all(STDOUT_FILENO, text)
 }

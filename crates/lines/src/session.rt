@@ -1,6 +1,6 @@
-// A session takes its input in pieces: whole lines are answered, and what is left of a line is held until the next piece.
+// A session takes its input in pieces. Whole lines are answered. The bytes of a line that has not ended are held until the next piece.
 
-use crate::answer::Told;
+use crate::answer::LineResult;
 use crate::answer::answer;
 use crate::gather::hold;
 use crate::gather::line_end;
@@ -8,23 +8,23 @@ use pretree::Header;
 ghost use mathlib.Core.Path.{_≡_};
 ghost use Prim.Native.Nat.{_+_, _*_, _-_, _<_, _≤_, _^_};
 ghost use lib.ListN.{length, take, drop};
-ghost use Rattle.lines.specs.Answering.{lineEnded, Fed, Moves};
+ghost use Rattle.lines.specs.Answering.{afterLine, FeedsFromHeld, Advances};
 
-// What is kept between two pieces: the header, the lines that were answered, and how many bytes of a line are held.
+// What is kept between two pieces: the header, how many lines were answered, and how many bytes of a line are held.
 pub struct Session {
     pub header: Header,
     pub lines: u64,
     pub held: usize,
 }
 
-// The session after a part of a piece, the place in the piece behind that part, and the place behind what was told.
-pub struct Went {
+// The session after a part of a piece, the place in the piece after that part, and the place in `out` after the replies.
+pub struct Progress {
     pub session: Session,
     pub from: usize,
     pub next: usize,
 }
 
-// Goes on from the place `from` of a piece to the end of a line, or holds what is left of the piece.
+// Answers the line that ends first after the place `from` of a piece. If none ends, holds the rest of the piece.
 fn step(
     session: Session,
     piece: &[u8],
@@ -34,15 +34,15 @@ fn step(
     buffer: &mut [u8],
     out: &mut [u8],
     at: usize,
-) -> Went
+) -> Progress
     requires { ⌜ session .lines + 1 < 2 ^ 64 ⌝ }
     requires { ⌜ at + 65 + 15 * length (now words) ≤ length (now out) ⌝ }
     requires { ⌜ (length (now buffer) ≡ 65) × (session .held ≤ 65) ⌝ }
     requires { ⌜ from < length (now piece) ⌝ }
-    ensures { λ r. ⌜ Fed session (now (table .entry)) (now (words .entry)) (now (buffer .entry)) (now (out .entry)) at
+    ensures { λ r. ⌜ FeedsFromHeld session (now (table .entry)) (now (words .entry)) (now (buffer .entry)) (now (out .entry)) at
         (take (r .from - from) (drop from (now (piece .entry))))
         r (now (table .exit)) (now (words .exit)) (now (buffer .exit)) (now (out .exit)) ⌝ }
-    ensures { λ r. ⌜ Moves from (length (now (piece .entry))) (length (now (out .exit))) session r ⌝ }
+    ensures { λ r. ⌜ Advances from (length (now (piece .entry))) (length (now (out .exit))) session r ⌝ }
 {
     let lines = session.lines;
     let end = line_end(piece, from);
@@ -50,13 +50,13 @@ fn step(
     if end == piece.len() {
         let mut kept = session;
         kept.held = held;
-        return Went {
+        return Progress {
             session: kept,
             from: end,
             next: at,
         };
     }
-    let told = answer(
+    let result = answer(
         &buffer[..held],
         lines,
         session.header,
@@ -65,27 +65,27 @@ fn step(
         out,
         at,
     );
-    ended(told, lines + 1, end + 1)
+    after_line(result, lines + 1, end + 1)
 }
 
-// A line has ended, and none has begun. A function of its own, since a struct that is read out of a struct beside lent slices makes the
-// check of the whole function dear; so are `told_of` and `spoke_of`.
-fn ended(told: Told, lines: u64, from: usize) -> Went
-    ensures { λ r. ⌜ r ≡ lineEnded told lines from ⌝ }
+// The progress after a line that ended; no byte of the next line is held. Separate because the checker is slow on nested structs beside slices;
+// so are `line_result` and `piece_result`.
+fn after_line(result: LineResult, lines: u64, from: usize) -> Progress
+    ensures { λ r. ⌜ r ≡ afterLine result lines from ⌝ }
 {
-    let header = told.header;
-    Went {
+    let header = result.header;
+    Progress {
         session: Session {
             header,
             lines,
             held: 0,
         },
         from,
-        next: told.next,
+        next: result.next,
     }
 }
 
-// Answers a piece from the place `from` on, until it ends or `out` might not have room for one more reply.
+// Answers a piece from the place `from` on. Stops at the end of the piece, or when `out` may have no room for one more reply.
 pub(crate) fn feed(
     session: Session,
     piece: &[u8],
@@ -94,36 +94,36 @@ pub(crate) fn feed(
     words: &mut [u32],
     buffer: &mut [u8],
     out: &mut [u8],
-) -> Went
+) -> Progress
     requires { ⌜ session .lines + length (now piece) < 2 ^ 64 + from ⌝ }
     requires { ⌜ 65 + 15 * length (now words) ≤ length (now out) ⌝ }
     requires { ⌜ (length (now buffer) ≡ 65) × (session .held ≤ 65) ⌝ }
     requires { ⌜ from < length (now piece) ⌝ }
-    ensures { λ r. ⌜ Fed session (now (table .entry)) (now (words .entry)) (now (buffer .entry)) (now (out .entry)) 0
+    ensures { λ r. ⌜ FeedsFromHeld session (now (table .entry)) (now (words .entry)) (now (buffer .entry)) (now (out .entry)) 0
         (take (r .from - from) (drop from (now (piece .entry))))
         r (now (table .exit)) (now (words .exit)) (now (buffer .exit)) (now (out .exit)) ⌝ }
-    ensures { λ r. ⌜ Moves from (length (now (piece .entry))) (length (now (out .exit))) session r ⌝ }
+    ensures { λ r. ⌜ Advances from (length (now (piece .entry))) (length (now (out .exit))) session r ⌝ }
 {
     let most = 65 + 15 * words.len();
-    let mut went = Went {
+    let mut progress = Progress {
         session,
         from,
         next: 0,
     };
-    while went.from < piece.len() {
-        if out.len() - went.next < most {
-            return went;
+    while progress.from < piece.len() {
+        if out.len() - progress.next < most {
+            return progress;
         }
-        went = step(
-            went.session,
+        progress = step(
+            progress.session,
             piece,
-            went.from,
+            progress.from,
             table,
             words,
             buffer,
             out,
-            went.next,
+            progress.next,
         );
     }
-    went
+    progress
 }

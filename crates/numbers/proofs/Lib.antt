@@ -1,4 +1,6 @@
--- for the crates that read numbers: when a text is a number
+-- The proof files by what they serve.
+
+-- the crates that read numbers, and the promise `read-spells`, `spells-read` of docs/PROMISES.md: when a text is a number
 pub mod Laws
--- for `read_number`: how its loop goes from digit to digit
+-- the loop of `read_number`
 mod Loop

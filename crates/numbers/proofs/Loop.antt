@@ -1,4 +1,4 @@
--- The loop of `read_number`: how the value goes on from digit to digit.
+-- The loop of `read_number`, digit by digit.
 use Prim.Native.Nat.{ℕ, zero, suc, _+_, _*_, _-_, _^_, _≤_, _<_}
 use mathlib.Core.Path.{_≡_, refl, sym, _∙_}
 use mathlib.Core.Bool.{true, false, _&&_}
@@ -26,8 +26,8 @@ module _ (ds : List ℕ) (i : ℕ) (within : i < length ds) where
 pub below-next : (v d i : ℕ) → v < 10 ^ i → d ≤ 57 → v * 10 + (d - 48) < 10 ^ suc i
 below-next v d i h l = rw (pow-suc 10 i) (omega arith)
 
--- v is spelt by the first i of n digits that may be a number
-pub record ReadSoFar (ds : List ℕ) (n v i : ℕ) : Type 0 where
+-- the invariant: the first i of n digits spell v, and nothing so far says that the text is no number
+pub record ReadLoop (ds : List ℕ) (n v i : ℕ) : Type 0 where
   pub whole : n ≡ length ds
   pub some : 1 ≤ length ds
   pub few : length ds ≤ 10
@@ -37,11 +37,11 @@ pub record ReadSoFar (ds : List ℕ) (n v i : ℕ) : Type 0 where
   pub value : spelt v (drop i ds) ≡ spelt 0 ds
   pub digits : areDigits (drop i ds) ≡ areDigits ds
 
-pub at-start : (ds : List ℕ) → 1 ≤ length ds → length ds ≤ 10 → leadsWithZero ds ≡ false → ReadSoFar ds (length ds) 0 0
+pub at-start : (ds : List ℕ) → 1 ≤ length ds → length ds ≤ 10 → leadsWithZero ds ≡ false → ReadLoop ds (length ds) 0 0
 at-start ds some few plain =
     record { whole = refl; some = some; few = few; plain = plain; within = omega arith; small = omega arith; value = refl; digits = refl }
 
-module _ {ds : List ℕ} {n v i : ℕ} (s : ReadSoFar ds n v i) where
+module _ {ds : List ℕ} {n v i : ℕ} (s : ReadLoop ds n v i) where
   module _ (more : i < n) where
     -- at a byte that is no digit
     pub at-other-byte : isDigit (getD ds i 0) ≡ false → readNumber ds ≡ Nothing
@@ -50,7 +50,7 @@ module _ {ds : List ℕ} {n v i : ℕ} (s : ReadSoFar ds n v i) where
         other-bytes ds (s .some) (s .few) (s .plain) e
 
     -- at a digit
-    pub after-digit : 48 ≤ getD ds i 0 → getD ds i 0 ≤ 57 → ReadSoFar ds n (v * 10 + (getD ds i 0 - 48)) (i + 1)
+    pub after-digit : 48 ≤ getD ds i 0 → getD ds i 0 ≤ 57 → ReadLoop ds n (v * 10 + (getD ds i 0 - 48)) (i + 1)
     after-digit l h =
         let inside : i < length ds = omega arith in
         rw add-one
@@ -71,7 +71,7 @@ module _ {ds : List ℕ} {n v i : ℕ} (s : ReadSoFar ds n v i) where
         let p : 10 ^ i ≤ 10 ^ 9 = pow-le-pow-right (zero-lt-suc 9) l in
         omega arith
 
-  -- behind the last digit
+  -- after the last digit
   module _ (end : n ≤ i) where
     done : drop i ds ≡ []
     done = let h : length ds ≤ i = omega arith in drop-of-length-le ds h

@@ -17,7 +17,7 @@ unfoldable pub areDigits : List ℕ → Bool
 areDigits [] = true
 areDigits (d ∷ ds) = isDigit d && areDigits ds
 
--- the number that digits spell, after those that spell n
+-- the number that digits spell after digits that spell n
 unfoldable pub spelt : ℕ → List ℕ → ℕ
 spelt n [] = n
 spelt n (d ∷ ds) = spelt (n * 10 + (d - 48)) ds

@@ -1,4 +1,4 @@
-// Reading a decimal number. The line programs read every number of a line or an argument by this function; specs/Decimal.antt has the rule.
+// Reading a decimal number. The programs read every number in a line or an argument with this function. specs/Decimal.antt has the rule.
 
 ghost use mathlib.Core.Path.{_≡_};
 ghost use Rattle.numbers.specs.Decimal.{readNumber};

@@ -4,7 +4,7 @@ use crate::Buffer;
 use crate::State;
 use crate::Table;
 use crate::report;
-use lines::answer::Ran;
+use lines::answer::CallResult;
 use pretree::Call;
 use pretree::Header;
 ghost use mathlib.Core.Path.{_≡_};
@@ -29,10 +29,10 @@ pub(crate) fn run(
     ensures { λ r. ⌜ Fits r ⌝ }
     ensures { λ r. ⌜ SetAfter call state (now (table .entry)) r (now (table .exit)) ⌝ }
 {
-    let ran = run_on_prefixes(call, state, table, copy, buffer);
+    let result = run_on_prefixes(call, state, table, copy, buffer);
     if state.keep {
         copy_back(copy, table, state.size);
-        return state.with_header_of(ran);
+        return state.with_header_of(result);
     }
     state
 }
@@ -44,7 +44,7 @@ fn run_on_prefixes(
     table: &[u32],
     copy: &mut [u32],
     buffer: &mut [u32],
-) -> Ran
+) -> CallResult
     requires { ⌜ (state .size ≤ length (now table)) × (state .size ≤ length (now copy)) ⌝ }
     requires { ⌜ state .room ≤ length (now buffer) ⌝ }
     ensures { λ r. ⌜ Runs call (outcome call state (now (table .entry)))
@@ -67,16 +67,16 @@ fn run_and_report(
     table: &[u32],
     copy: &mut [u32],
     buffer: &mut [u32],
-) -> Ran
+) -> CallResult
     requires { ⌜ length (now copy) ≡ length (now table) ⌝ }
     ensures { λ r. ⌜ Runs call (after call (state .header) (now (table .entry)) (replicate (length (now (buffer .entry))) 2863311530))
         r (now (copy .exit)) (now (buffer .exit)) ⌝ }
 {
-    let ran = run_on_copy(call, state.header, table, copy, buffer);
-    report::reply(state.lines, ran.reply);
+    let result = run_on_copy(call, state.header, table, copy, buffer);
+    report::reply(state.lines, result.reply);
     report::changed_words(table, copy);
     report::changed_buffer(buffer);
-    ran
+    result
 }
 
 fn copy_back(copy: &[u32], table: &mut [u32], n: usize)
@@ -87,12 +87,12 @@ fn copy_back(copy: &[u32], table: &mut [u32], n: usize)
 }
 
 impl State {
-    fn with_header_of(mut self, ran: Ran) -> Self
+    fn with_header_of(mut self, result: CallResult) -> Self
         requires { ⌜ Fits self ⌝ }
         ensures { λ r. ⌜ Fits r ⌝ }
-        ensures { λ r. ⌜ r ≡ withHeader self (ran .reply .header) ⌝ }
+        ensures { λ r. ⌜ r ≡ withHeader self (result .reply .header) ⌝ }
     {
-        let reply = ran.reply;
+        let reply = result.reply;
         let header = reply.header;
         self.header = header;
         self
@@ -106,7 +106,7 @@ fn run_on_copy(
     table: &[u32],
     copy: &mut [u32],
     buffer: &mut [u32],
-) -> Ran
+) -> CallResult
     requires { ⌜ length (now copy) ≡ length (now table) ⌝ }
     ensures { λ r. ⌜ Runs call (after call header (now (table .entry)) (replicate (length (now (buffer .entry))) 2863311530))
         r (now (copy .exit)) (now (buffer .exit)) ⌝ }

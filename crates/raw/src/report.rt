@@ -3,9 +3,9 @@
 use crate::State;
 use crate::calls::BLANK;
 use libc::STDOUT_FILENO;
-use lines::Said;
+use lines::ReplyFields;
 use lines::reply::not_read;
-use lines::reply::said;
+use lines::reply::reply_fields;
 use numbers::Number;
 use pretree::Header;
 use pretree::Reply;
@@ -25,18 +25,18 @@ pub(crate) fn unread(state: State) -> State
 
 pub(crate) fn reply(line: u64, reply: Reply) {
     let after = reply.header;
-    reply_line(line, said(reply));
+    reply_line(line, reply_fields(reply));
     header_line(after);
 }
 
 // "line number from 1, answer number, key or `-`, rows read, moving count, parted by tabs"
-fn reply_line(line: u64, said: Said) {
-    let key = said.key;
+fn reply_line(line: u64, fields: ReplyFields) {
+    let key = fields.key;
     io::print_decimal(STDOUT_FILENO, line);
-    field(said.answer);
+    field(fields.answer);
     key_field(key);
-    field(said.rows);
-    field(said.moved);
+    field(fields.rows);
+    field(fields.moved);
     line_end();
 }
 

@@ -1,4 +1,4 @@
--- The promise of the tray, of the program: over any lines, from a tray of 64 fresh seats, the replies are the standard's. Assumes nothing.
+-- The promise for the tray program: over any lines, from a tray of 64 fresh seats, the replies are the standard's. It assumes nothing.
 use Prim.Native.Nat.{_≤_}
 use mathlib.Core.Path.{_≡_, refl}
 use mathlib.Core.List.{List, [], _∷_, _++_}
@@ -10,12 +10,12 @@ use Rattle.tray.specs.Sequence.{Arrival}
 use Rattle.tray.proofs.Promise.{AllFollow, one, all-fresh}
 use Rattle.tray_lines.specs.declared.parse.Line.{Line}
 use Rattle.tray_lines.specs.declared.parse.Line.the-variants.{Read, Unread}
-use Rattle.tray_lines.specs.Reply.{texts, standardTexts, trayOn}
+use Rattle.tray_lines.specs.Reply.{replies, standardReplies, trayOn}
 
 module _ (settings : Sample) (fits : settings .repetition ≤ top) where
   all-lines : (before : List Arrival) (tray : List Seat) → AllFollow (settings .width) (settings .repetition) (settings .proportion) fits 64 before tray
-      → (lines : List Line) → texts settings tray lines ≡ standardTexts settings before lines
-  unfolding texts standardTexts
+      → (lines : List Line) → replies settings tray lines ≡ standardReplies settings before lines
+  unfolding replies standardReplies
   all-lines before tray follow [] = refl
   all-lines before tray follow (Read seat word ∷ rest) =
       let a : Arrival = record { seat = seat; word = word } in
@@ -23,5 +23,5 @@ module _ (settings : Sample) (fits : settings .repetition ≤ top) where
       rw (right .answers, all-lines (before ++ a ∷ []) (trayOn tray (Read seat word) settings) (right .leaves) rest)
   all-lines before tray follow (Unread ∷ rest) = rw (all-lines before tray follow rest)
 
-  pub replies-are-the-standard's : (lines : List Line) → texts settings (replicate 64 fresh) lines ≡ standardTexts settings [] lines
+  pub replies-are-the-standard's : (lines : List Line) → replies settings (replicate 64 fresh) lines ≡ standardReplies settings [] lines
   replies-are-the-standard's lines = all-lines [] (replicate 64 fresh) (all-fresh (settings .width) (settings .repetition) (settings .proportion) fits 64) lines

@@ -1,4 +1,4 @@
--- The first tab of a line, by its place: the bytes before it and those behind it.
+-- The first tab of a line, by its place: the bytes before it and those after it.
 use Prim.Native.Nat.{ℕ, zero, suc, _≤_, _<_}
 use mathlib.Core.Path.{_≡_, refl, ap}
 use mathlib.Core.Bool.{Bool, true, false}
@@ -10,7 +10,7 @@ use lib.Seq.{drop-cons}
 use borrow.Author.Tests.{eq-eqb, ne-eqb}
 use Rattle.tray_lines.specs.Line.{beforeTab, behindTab}
 
--- at the place of the first tab
+-- the line cut at the place of the first tab
 pub before-is : (line : List ℕ) → beforeTab line ≡ take (length (beforeTab line)) line
 unfolding beforeTab
 before-is [] = refl
@@ -29,7 +29,7 @@ behind-is (b ∷ bs) = by-cases (eqb b 9) refl (behind-is bs)
     by-cases true t rest = rw t
     by-cases false t rest = rw t rest
 
--- from a place on
+-- the first tab from the place i on
 module _ (line : List ℕ) (i : ℕ) (within : i < length line) where
   pub at-tab : getD line i 0 ≡ 9 → length (beforeTab (drop i line)) ≡ 0
   unfolding beforeTab

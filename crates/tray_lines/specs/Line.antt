@@ -1,5 +1,5 @@
 -- What one line means, from its bytes without the byte 10 that ends it: a seat, one tab and a word.
--- Both are numbers as document 01 has them, `readNumber` of crate `numbers`.
+-- Seat and word are numbers as document 01 has them: `readNumber` of crate `numbers`.
 use Prim.Native.Nat.{ℕ}
 use mathlib.Core.Bool.{cond}
 use mathlib.Core.List.{List, [], _∷_}
@@ -11,7 +11,7 @@ use Rattle.numbers.specs.Decimal.{readNumber}
 use Rattle.tray_lines.specs.declared.parse.Line.{Line}
 use Rattle.tray_lines.specs.declared.parse.Line.the-variants.{Read, Unread}
 
--- the bytes before the first tab, and those behind it
+-- the bytes before the first tab, and those after it
 unfoldable pub beforeTab : List ℕ → List ℕ
 beforeTab [] = []
 beforeTab (b ∷ bs) = cond (eqb b 9) [] (b ∷ beforeTab bs)

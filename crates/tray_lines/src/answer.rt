@@ -1,4 +1,4 @@
-// Answering a line: the seat's record is tested by value, and the tray handed back.
+// Answering a line. The seat's record is tested by value, and the tray is returned.
 
 use crate::parse::Line;
 use tray::Sample;
@@ -7,29 +7,29 @@ use tray::Verdict;
 ghost use mathlib.Core.Path.{_≡_};
 ghost use lib.ListN.{length};
 ghost use Rattle.tray.specs.Tray.{Sampled};
-ghost use Rattle.tray_lines.specs.Reply.{textOf, textOn, trayOn};
+ghost use Rattle.tray_lines.specs.Reply.{fieldsOf, fieldsOn, trayOn};
 
-// What a reply line says behind its line number.
-pub struct Text {
+// The fields of a reply line after its line number.
+pub struct ReplyFields {
     pub answer: u32,
     pub repetition: bool,
     pub proportion: bool,
 }
 
 // The tray after a sample, and the verdict.
-pub struct Turn {
+pub struct SampleResult {
     pub tray: [Seat; 64],
     pub verdict: Verdict,
 }
 
-// The tray after a line, and the reply to it.
-pub struct Answered {
+// The tray after a line, and the fields of the reply to it.
+pub struct LineResult {
     pub tray: [Seat; 64],
-    pub text: Text,
+    pub fields: ReplyFields,
 }
 
-// A sample for one seat. `tray::take_sample` does this to a lent tray; no program can lend one, so here the array goes in and comes back.
-fn sampled(tray: [Seat; 64], seat: usize, sample: Sample) -> Turn
+// A sample for one seat. `tray::take_sample` does this to a lent tray. No program can lend one, so here the array is passed in and returned.
+fn sampled(tray: [Seat; 64], seat: usize, sample: Sample) -> SampleResult
     requires { ⌜ length tray ≡ 64 ⌝ }
     ensures { λ r. ⌜ (length (r .tray) ≡ 64) × Sampled tray seat sample (r .tray) (r .verdict) ⌝ }
 {
@@ -37,26 +37,26 @@ fn sampled(tray: [Seat; 64], seat: usize, sample: Sample) -> Turn
         let record = tray[seat];
         let mut left = tray;
         left[seat] = record.after(seat, sample);
-        return Turn {
+        return SampleResult {
             tray: left,
             verdict: record.verdict(seat, sample),
         };
     }
-    Turn {
+    SampleResult {
         tray,
         verdict: tray::absent(sample),
     }
 }
 
 // A line that is not two numbers is answer 9.
-pub(crate) fn answer_line(tray: [Seat; 64], line: Line, settings: Sample) -> Answered
+pub(crate) fn answer_line(tray: [Seat; 64], line: Line, settings: Sample) -> LineResult
     requires { ⌜ length tray ≡ 64 ⌝ }
-    ensures { λ r. ⌜ (length (r .tray) ≡ 64) × (r .tray ≡ trayOn tray line settings) × (r .text ≡ textOn tray line settings) ⌝ }
+    ensures { λ r. ⌜ (length (r .tray) ≡ 64) × (r .tray ≡ trayOn tray line settings) × (r .fields ≡ fieldsOn tray line settings) ⌝ }
 {
     let Line::Read(seat, word) = line else {
-        return Answered {
+        return LineResult {
             tray,
-            text: Text {
+            fields: ReplyFields {
                 answer: 9,
                 repetition: false,
                 proportion: false,
@@ -69,29 +69,29 @@ pub(crate) fn answer_line(tray: [Seat; 64], line: Line, settings: Sample) -> Ans
         repetition: settings.repetition,
         proportion: settings.proportion,
     };
-    let turn = sampled(tray, seat as usize, sample);
-    let left = turn.tray;
-    let verdict = turn.verdict;
-    Answered {
+    let result = sampled(tray, seat as usize, sample);
+    let left = result.tray;
+    let verdict = result.verdict;
+    LineResult {
         tray: left,
-        text: text_of(verdict),
+        fields: fields_of(verdict),
     }
 }
 
-fn text_of(verdict: Verdict) -> Text
-    ensures { λ r. ⌜ r ≡ textOf verdict ⌝ }
+fn fields_of(verdict: Verdict) -> ReplyFields
+    ensures { λ r. ⌜ r ≡ fieldsOf verdict ⌝ }
 {
     let answer = verdict.number();
     match verdict {
         Verdict::Counted {
             repetition,
             proportion,
-        } => Text {
+        } => ReplyFields {
             answer,
             repetition,
             proportion,
         },
-        _ => Text {
+        _ => ReplyFields {
             answer,
             repetition: false,
             proportion: false,

@@ -7,21 +7,21 @@ ghost use Prim.Native.Nat.{_+_, _<_, _≤_};
 ghost use lib.ListN.{length};
 
 // The part of a buffer that is still to be read, and how many bytes may still come. A proved loop has to end, and nothing says that the input
-// does; so the bytes are counted down, from a number that no run uses up.
+// does. So the bytes are counted down, from a number that no run uses up.
 pub struct Source {
     pub at: usize,
     pub end: usize,
     pub left: u64,
 }
 
-// A line: the number of its bytes that are held, at most 65, and the source behind it. Without `more` there was no line.
-pub struct Gathered {
+// A line: how many of its bytes are held, at most 65, and the source after it. If `more` is false there was no line.
+pub struct GatheredLine {
     pub source: Source,
     pub held: usize,
     pub more: bool,
 }
 
-// Reads on where the buffer is used up. At the end of input nothing is there.
+// Reads on if the buffer is used up. At the end of input `at` is `end`.
 fn filled(input: &mut [u8], source: Source) -> Source
     requires { ⌜ source .end ≤ length (now input) ⌝ }
     ensures { λ r. ⌜ (r .at ≤ r .end) × (r .end ≤ length (now (input .exit))) × (r .left ≡ source .left) ⌝ }
@@ -38,7 +38,7 @@ fn filled(input: &mut [u8], source: Source) -> Source
     }
 }
 
-// The source behind one byte.
+// The source after one byte.
 fn passed(source: Source) -> Source
     requires { ⌜ (source .at < source .end) × (0 < source .left) ⌝ }
     ensures { λ r. ⌜ (r .at ≤ r .end) × (r .end ≡ source .end) × (r .left + 1 ≡ source .left) ⌝ }
@@ -51,7 +51,7 @@ fn passed(source: Source) -> Source
 }
 
 // A line above 64 bytes is answer 9 whatever it says, so its first 65 bytes are enough.
-pub(crate) fn next_line(input: &mut [u8], line: &mut [u8], source: Source) -> Gathered
+pub(crate) fn next_line(input: &mut [u8], line: &mut [u8], source: Source) -> GatheredLine
     requires { ⌜ (source .end ≤ length (now input)) × (length (now line) ≡ 65) ⌝ }
     ensures { λ r. ⌜ (r .held ≤ 65) × (r .source .end ≤ length (now (input .exit))) × (r .source .left ≤ source .left) ⌝ }
     ensures { λ r. ⌜ (r .more ≡ true → r .source .left < source .left) ⌝ }
@@ -62,7 +62,7 @@ pub(crate) fn next_line(input: &mut [u8], line: &mut [u8], source: Source) -> Ga
         s = filled(input, s);
         let at = s.at;
         if at == s.end {
-            return Gathered {
+            return GatheredLine {
                 source: s,
                 held,
                 more: 0 < held,
@@ -71,7 +71,7 @@ pub(crate) fn next_line(input: &mut [u8], line: &mut [u8], source: Source) -> Ga
         let b = input[at];
         s = passed(s);
         if b == b'\n' {
-            return Gathered {
+            return GatheredLine {
                 source: s,
                 held,
                 more: true,
@@ -82,7 +82,7 @@ pub(crate) fn next_line(input: &mut [u8], line: &mut [u8], source: Source) -> Ga
             held += 1;
         }
     }
-    Gathered {
+    GatheredLine {
         source: s,
         held,
         more: false,

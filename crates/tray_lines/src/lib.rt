@@ -1,7 +1,8 @@
-// The tray program, with the arguments W, C1 and C2: a tray of 64 seats, all zeros at the start. It reads lines of seat, tab, word, and writes for
-// each its line number, answer number, repetition alarm and proportion alarm, parted by tabs. C1 is the repetition cutoff, C2 the proportion cutoff.
+// The tray program, with the arguments W, C1 and C2: a tray of 64 seats, all zeros at the start. It reads lines of seat, tab, word. For each it
+// writes the line number, answer number, repetition alarm and proportion alarm, separated by tabs. C1 is the repetition cutoff, C2 the proportion
+// cutoff.
 //
-// There is no exit status: at the end, once every write has succeeded, the program writes `ok` to descriptor 3. The script `tray` goes by that.
+// A program has no exit status. So it writes `ok` to descriptor 3 at the end, once every write has succeeded, and the script `tray` reads that.
 
 mod answer;
 mod gather;
@@ -58,7 +59,7 @@ fn usage() {
     );
 }
 
-// An argument that is missing, or longer than a number, is no number.
+// An argument that is missing, or longer than a number can be, is no number.
 fn argument(i: usize) -> Number {
     let mut text = [0u8; 11];
     let n = os::arg(i, &mut text);
@@ -87,10 +88,10 @@ fn serve(settings: Sample) -> bool {
         source = gathered.source;
         lines += 1;
         let n = gathered.held;
-        let turn = answer_line(tray, read_line(&line[..n]), settings);
-        let text = turn.text;
-        tray = turn.tray;
-        used = put_reply(&mut out, used, lines, text);
+        let result = answer_line(tray, read_line(&line[..n]), settings);
+        let fields = result.fields;
+        tray = result.tray;
+        used = put_reply(&mut out, used, lines, fields);
         if 4064 < used {
             if !io::write_all(STDOUT_FILENO, &out[..used]) {
                 return false;

@@ -1,11 +1,11 @@
-// Writing a reply line into a lent buffer: line number, answer number, repetition alarm and proportion alarm (0 or 1), parted by tabs.
+// Writing a reply line into a lent buffer: line number, answer number, repetition alarm and proportion alarm (0 or 1), separated by tabs.
 
-use crate::answer::Text;
+use crate::answer::ReplyFields;
 ghost use Prim.Native.Nat.{_+_, _≤_};
 ghost use lib.ListN.{length};
 
-// A reply line has at most 28 bytes. The place behind it is handed back.
-pub(crate) fn put_reply(out: &mut [u8], at: usize, line: u64, text: Text) -> usize
+// A reply line has at most 28 bytes. Returns the place after it.
+pub(crate) fn put_reply(out: &mut [u8], at: usize, line: u64, fields: ReplyFields) -> usize
     requires { ⌜ at + 32 ≤ length (now out) ⌝ }
     ensures { λ r. ⌜ r ≤ at + 32 ⌝ }
 {
@@ -16,9 +16,9 @@ pub(crate) fn put_reply(out: &mut [u8], at: usize, line: u64, text: Text) -> usi
         out[at + i] = digits[i];
         i += 1;
     }
-    let behind = put_answer(out, at + n, text.answer);
-    let first = put_alarm(out, behind, text.repetition);
-    let second = put_alarm(out, first, text.proportion);
+    let behind = put_answer(out, at + n, fields.answer);
+    let first = put_alarm(out, behind, fields.repetition);
+    let second = put_alarm(out, first, fields.proportion);
     out[second] = b'\n';
     second + 1
 }

@@ -9,12 +9,12 @@ use borrow.Author.Tests.{eq-eqb, ne-eqb, le-leb, lt-leb}
 use lib.ListN.{length, getD}
 use Rattle.numbers.specs.Decimal.{leadsWithZero}
 use Rattle.numbers.proofs.Laws.{none-given, too-many, one-digit, digits-more, zero-leads}
-use Rattle.numbers.proofs.Loop.{ReadSoFar, at-start, at-other-byte, after-digit, next-fits, ends-too-large, ends-as-number}
+use Rattle.numbers.proofs.Loop.{ReadLoop, at-start, at-other-byte, after-digit, next-fits, ends-too-large, ends-as-number}
 use Rattle.numbers.proofs.read_number.Statement.{statement}
 use Rattle.numbers.proofs.read_number.Tie as tie
 
 abbrev Inv-loop : tie.InvT-loop
-Inv-loop digits n value₀ i₀ value i = ReadSoFar digits n value i
+Inv-loop digits n value₀ i₀ value i = ReadLoop digits n value i
 
 abbrev μ-loop : tie.MeasureT-loop
 μ-loop digits n value₀ i₀ value i = n - i

@@ -4,12 +4,12 @@ use mathlib.Core.Path.{refl}
 use mathlib.Core.Logic.{⊎-elim}
 use native.Mathlib.Omega.{arith}
 use Rattle.lines.proofs.Puts.{put-length}
-use Rattle.lines.proofs.Gathering.{Copied, one-copied, all-copied}
+use Rattle.lines.proofs.Gathering.{CopyLoop, copy-next, all-copied}
 use Rattle.lines.proofs.gather.hold.Statement.{statement}
 use Rattle.lines.proofs.gather.hold.Tie as tie
 
 abbrev Inv-loop : tie.InvT-loop
-Inv-loop buffer₀ count part room most i₀ buffer i = Copied buffer₀ count part most buffer i
+Inv-loop buffer₀ count part room most i₀ buffer i = CopyLoop buffer₀ count part most buffer i
 
 abbrev μ-loop : tie.MeasureT-loop
 μ-loop buffer₀ count part room most i₀ buffer i = most - i
@@ -42,7 +42,7 @@ loop-less : tie.Need-loop-less Inv-loop μ-loop
 loop-less c = omega arith
 
 loop-again : tie.Need-loop-again Inv-loop μ-loop
-loop-again c = one-copied (c .before .before .loop .inv) (c .before .loop-test .taken)
+loop-again c = copy-next (c .before .before .loop .inv) (c .before .loop-test .taken)
 
 add-result : tie.Need-add-result Inv-loop μ-loop
 add-result c = omega arith

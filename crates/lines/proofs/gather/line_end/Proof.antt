@@ -1,4 +1,4 @@
--- The loop's invariant: the end that is looked for is as far from the place reached as from the start.
+-- The loop's invariant: the first byte 10 from i on is the first from `from` on.
 use Prim.Native.Nat.{_+_, _-_, _≤_}
 use mathlib.Core.Path.{_≡_}
 use native.Mathlib.Omega.{arith}

@@ -1,4 +1,4 @@
--- A word alone is read where nothing stands behind it.
+-- A word alone is read if nothing comes after it.
 use Rattle.lines.proofs.Heads.{nothing-behind, more-behind}
 use Rattle.lines.proofs.parse.alone.Statement.{statement}
 use Rattle.lines.proofs.parse.alone.Tie as tie

@@ -1,4 +1,4 @@
--- The byte behind the head is looked at, and then what stands behind that.
+-- Looks at the byte after the head, then at what follows it.
 use native.Mathlib.Omega.{arith}
 use Rattle.lines.specs.Head.{aloneAfter}
 use Rattle.lines.proofs.Heads.{after-none, after-other, after-one, rest-of}

@@ -1,4 +1,4 @@
--- The call is made where the digits are a number.
+-- The call is made if the digits are a number.
 use mathlib.Core.Path.{sym, ap, _∙_}
 use Rattle.lines.specs.declared.Line.the-variants.{Read}
 use Rattle.lines.specs.Head.{numbered}

@@ -1,4 +1,4 @@
--- The loop's invariant: the digits counted and those that are left are the digits of n, and one more.
+-- The loop's invariant: the digits counted and the digits of `rest` are together one more than the digits of n.
 use Prim.Native.Nat.{suc, _+_, _≤_}
 use mathlib.Core.Path.{_≡_}
 use native.Mathlib.Omega.{arith}

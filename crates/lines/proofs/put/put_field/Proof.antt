@@ -1,4 +1,4 @@
--- A tab, and the number behind it.
+-- A tab, then the number.
 use mathlib.Core.Path.{_∙_}
 use native.Mathlib.Omega.{arith}
 use lib.ListN.{length-set}

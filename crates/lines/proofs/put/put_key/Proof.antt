@@ -1,4 +1,4 @@
--- A tab, and the number or `-` behind it.
+-- A tab, then the number or `-`.
 use native.Mathlib.Omega.{arith}
 use lib.ListN.{length-set}
 use Rattle.lines.proofs.Puts.{put-then, put-byte}

@@ -1,4 +1,4 @@
--- The word `key`, a tab and a number, and the line's end.
+-- The word `key`, a tab and a number, and the end of the line.
 use mathlib.Core.Path.{_∙_}
 use native.Mathlib.Omega.{arith}
 use lib.ListN.{length-set}

@@ -1,16 +1,16 @@
--- The loop's invariant: the lines of the words passed are put.
+-- The loop's invariant: the lines of the first i words are put.
 use Prim.Native.Nat.{_+_, _*_, _-_, _≤_}
 use native.Mathlib.Omega.{arith}
 use borrow.Author.Needs.{needs}
 use lib.ListN.{length}
 use Rattle.lines.proofs.Puts.{put-length}
-use Rattle.lines.proofs.KeyLines.{Listing, none-listed, one-listed, all-listed}
+use Rattle.lines.proofs.KeyLines.{KeyLinesLoop, none-listed, one-listed, all-listed}
 use Rattle.lines.proofs.put.put_keys.Statement.{statement}
 use Rattle.lines.proofs.put.put_keys.Tie as tie
 
 abbrev Inv-loop : tie.InvT-loop
 Inv-loop out₀ at words next₀ i₀ out next i =
-    Listing out₀ at words out next i × (at + 15 * length words ≤ length out₀)
+    KeyLinesLoop out₀ at words out next i × (at + 15 * length words ≤ length out₀)
 
 abbrev μ-loop : tie.MeasureT-loop
 μ-loop out₀ at words next₀ i₀ out next i = length words - i

@@ -1,14 +1,14 @@
--- The loop's invariant: the digits of what is left are still to come, before those that stand there.
+-- The loop's invariant: the digits of `rest` are still to be written, before those already written.
 use mathlib.Core.Path.{refl}
 use lib.ListN.{length-set}
 use borrow.Author.Needs.{needs}
 use native.Mathlib.Omega.{arith}
-use Rattle.lines.proofs.Spelling.{Spelling, some-left, one-more, last-one}
+use Rattle.lines.proofs.Spelling.{DigitsLoop, some-left, one-more, last-one}
 use Rattle.lines.proofs.put.put_number.Statement.{statement}
 use Rattle.lines.proofs.put.put_number.Tie as tie
 
 abbrev Inv-loop : tie.InvT-loop
-Inv-loop out₀ at n end i₀ rest₀ out i rest = Spelling out₀ at n end out i rest
+Inv-loop out₀ at n end i₀ rest₀ out i rest = DigitsLoop out₀ at n end out i rest
 
 abbrev μ-loop : tie.MeasureT-loop
 μ-loop out₀ at n end i₀ rest₀ out i rest = rest

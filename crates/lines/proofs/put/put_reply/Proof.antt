@@ -1,4 +1,4 @@
--- Each text is put behind the one before.
+-- Each text is put after the one before it.
 use native.Mathlib.Omega.{arith}
 use lib.ListN.{length-set}
 use Rattle.lines.specs.Render.{replyLine}

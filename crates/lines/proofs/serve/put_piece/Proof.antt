@@ -1,4 +1,4 @@
--- What was read is in the buffer; at the end of input a byte 10 is, if bytes are held.
+-- What was read is in the buffer; at the end of input it is a byte 10, if bytes are held.
 use native.Mathlib.Omega.{arith}
 use lib.ListN.{length-set}
 use Rattle.lines.proofs.Serving.{piece-read, piece-none, piece-end}

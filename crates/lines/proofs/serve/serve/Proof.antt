@@ -1,17 +1,17 @@
--- The loop's invariant: the slices have their sizes, the memory keeps the session to which some input leads from the start, and the lines that
--- can still come keep their number below 2 ^ 64.
+-- The loop's invariant: the slices keep their sizes, the memory keeps the session after some input from the start, and the lines that can still
+-- come keep the number of lines below 2 ^ 64.
 use mathlib.Core.Path.{refl}
 use native.Mathlib.Omega.{arith}
-use Rattle.lines.proofs.Serving.{Serving, reached-start, no-lines, enough, may-read, served-on, fewer-turns}
+use Rattle.lines.proofs.Serving.{ServeLoop, reached-start, no-lines, enough, may-read, served-after, fewer-turns}
 use Rattle.lines.proofs.serve.serve.Statement.{statement}
 use Rattle.lines.proofs.serve.serve.Tie as tie
 
 abbrev Inv-loop : tie.InvT-loop
-Inv-loop input₀ table₀ words₀ buffer₀ out₀ turns₀ spoke₀ input table words buffer out turns spoke =
-    Serving table₀ words₀ buffer₀ input₀ out₀ table words buffer input out turns (spoke .session)
+Inv-loop input₀ table₀ words₀ buffer₀ out₀ turns₀ result₀ input table words buffer out turns result =
+    ServeLoop table₀ words₀ buffer₀ input₀ out₀ table words buffer input out turns (result .session)
 
 abbrev μ-loop : tie.MeasureT-loop
-μ-loop input₀ table₀ words₀ buffer₀ out₀ turns₀ spoke₀ input table words buffer out turns spoke = turns
+μ-loop input₀ table₀ words₀ buffer₀ out₀ turns₀ result₀ input table words buffer out turns result = turns
 
 loop-holds : tie.Need-loop-holds Inv-loop μ-loop
 loop-holds c =
@@ -46,7 +46,7 @@ loop-again c =
     let p = c .before .before .before .before .before .before .before .before .before .before .before .before .before .before .before .before .before .before .before .read in
     let k = c .before .before .before .before .before .before .before .before .before .before .before .take-in in
     rw (c .turns-left .ensures) (
-    served-on i (p .last .0) (p .kept .0) (c .before .before .before .before .before .before .before .before .before .before .before .before .before .before .before .before .before .before .before .before .before .loop-test .taken) (p .result) (k .ensures) (k .kept .1 .1 .1 .0) (k .kept .1 .1 .1 .1 .0) (k .kept .1 .1 .1 .1 .1 .0) (k .kept .1 .1 .0) (k .kept .1 .1 .1 .1 .1 .1 .0)
+    served-after i (p .last .0) (p .kept .0) (c .before .before .before .before .before .before .before .before .before .before .before .before .before .before .before .before .before .before .before .before .before .loop-test .taken) (p .result) (k .ensures) (k .kept .1 .1 .1 .0) (k .kept .1 .1 .1 .1 .0) (k .kept .1 .1 .1 .1 .1 .0) (k .kept .1 .1 .0) (k .kept .1 .1 .1 .1 .1 .1 .0)
     )
 
 pub serve-spec : {M : Type 1} → statement M

@@ -1,12 +1,12 @@
--- The piece is what the read left, and `speak` takes it in.
+-- The piece is what the read left, and `answer_piece` takes it in.
 use mathlib.Core.Path.{sym}
 use native.Mathlib.Omega.{arith}
 use lib.Seq.{length-take-le}
 use Rattle.lines.proofs.serve.take_in.Statement.{statement}
 use Rattle.lines.proofs.serve.take_in.Tie as tie
 
-speak-requires : tie.Need-speak-requires
-speak-requires c κs =
+answer-piece-requires : tie.Need-answer-piece-requires
+answer-piece-requires c κs =
     let pre = c .before .before .before .before .before .before .before .before .before .before .before .before .before .before .pre in
     let p = c .before .before .before .before .before .before .before .put-piece in
     (pre .0, (pre .1 .0, rw (length-take-le (p .result) (p .last .1 .1 .0) (p .ensures .0)) (omega (arith, p .ensures .0, p .kept .1 .1 .0, pre .1 .1 .1))))
@@ -18,10 +18,10 @@ take-in-spec =
     (λ c κs. c .before .before .before .before .before .before .pre .1 .1 .0)
     (λ c. c .before .before .put-piece .ensures .0)
     (λ c. let p = c .before .before .before .put-piece in sym (length-take-le (p .result) (p .last .1 .1 .0) (p .ensures .0)))
-    speak-requires
+    answer-piece-requires
     (λ c. c .before .before .before .before .before .before .before .before .before .before .before .before .before .before .before .before .put-piece .kept .1 .1 .0)
-    (λ c. c .before .before .before .before .before .before .before .before .speak .kept .1 .1 .0)
-    (λ c. c .before .before .before .before .before .before .before .before .speak .kept .1 .1 .1 .0)
-    (λ c. c .before .before .before .before .before .before .before .before .speak .kept .1 .1 .1 .1 .0)
-    (λ c. c .before .before .before .before .before .before .before .before .speak .kept .1 .1 .1 .1 .1 .0)
-    (λ c. rw (c .before .before .before .before .before .before .before .before .before .before .before .before .before .before .before .before .put-piece .ensures .1) at (c .before .before .before .before .before .before .before .before .speak .ensures)))
+    (λ c. c .before .before .before .before .before .before .before .before .answer-piece .kept .1 .1 .0)
+    (λ c. c .before .before .before .before .before .before .before .before .answer-piece .kept .1 .1 .1 .0)
+    (λ c. c .before .before .before .before .before .before .before .before .answer-piece .kept .1 .1 .1 .1 .0)
+    (λ c. c .before .before .before .before .before .before .before .before .answer-piece .kept .1 .1 .1 .1 .1 .0)
+    (λ c. rw (c .before .before .before .before .before .before .before .before .before .before .before .before .before .before .before .before .put-piece .ensures .1) at (c .before .before .before .before .before .before .before .before .answer-piece .ensures)))

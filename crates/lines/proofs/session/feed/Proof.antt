@@ -1,20 +1,20 @@
--- The loop's invariant: what was taken in so far is the piece from `from` up to the place reached.
+-- The loop's invariant: what was taken in so far is the piece from `from` up to `progress.from`.
 use Prim.Native.Nat.{_-_}
 use mathlib.Core.Path.{refl}
 use native.Mathlib.Nat.{sub-self}
 use native.Mathlib.Omega.{arith}
 use lib.ListN.{length}
 use Rattle.lines.specs.Answering.{sessionOf}
-use Rattle.lines.proofs.Feeding.{feeds-nothing, Going, gone-on, went-onward}
+use Rattle.lines.proofs.Feeding.{feeds-nothing, FeedLoop, after-step, loop-advances}
 use Rattle.lines.proofs.session.feed.Statement.{statement}
 use Rattle.lines.proofs.session.feed.Tie as tie
 
 abbrev Inv-loop : tie.InvT-loop
-Inv-loop piece from table₀ words₀ buffer₀ out₀ most went₀ table words buffer out went =
-    Going piece from table₀ words₀ buffer₀ out₀ most went₀ table words buffer out went
+Inv-loop piece from table₀ words₀ buffer₀ out₀ most progress₀ table words buffer out progress =
+    FeedLoop piece from table₀ words₀ buffer₀ out₀ most progress₀ table words buffer out progress
 
 abbrev μ-loop : tie.MeasureT-loop
-μ-loop piece from table₀ words₀ buffer₀ out₀ most went₀ table words buffer out went = length piece - went .from
+μ-loop piece from table₀ words₀ buffer₀ out₀ most progress₀ table words buffer out progress = length piece - progress .from
 
 mul-most : tie.Need-mul-most Inv-loop μ-loop
 mul-most c = omega (arith, c .before .before .before .before .before .pre, c .before .before .before .before .before .good)
@@ -65,7 +65,7 @@ same-length-4 c = c .before .before .before .before .loop .inv .out-size
 returns : tie.Need-returns Inv-loop μ-loop
 returns c =
     let g = c .before .before .before .before .loop .inv in
-    (g .feeds, went-onward g (λ e. omega (arith, g .first e, g .enough, c .if2 .taken)))
+    (g .feeds, loop-advances g (λ e. omega (arith, g .first e, g .enough, c .if2 .taken)))
 
 step-requires : tie.Need-step-requires Inv-loop μ-loop
 step-requires c κs =
@@ -82,7 +82,7 @@ loop-less c =
 loop-again : tie.Need-loop-again Inv-loop μ-loop
 loop-again c =
     let s = c .before .before .before .before .before .before .before .before .step in
-    gone-on (c .before .before .before .before .before .before .before .before .before .before .before .before .before .before .before .before .before .loop .inv) (s .ensures .0) (s .ensures .1)
+    after-step (c .before .before .before .before .before .before .before .before .before .before .before .before .before .before .before .before .before .loop .inv) (s .ensures .0) (s .ensures .1)
     (s .kept .1 .1 .1 .0)
     (s .kept .1 .1 .1 .1 .0)
     (s .kept .1 .1 .1 .1 .1 .0)
@@ -103,7 +103,7 @@ same-length-8 c = c .before .before .loop .inv .out-size
 returns-2 : tie.Need-returns-2 Inv-loop μ-loop
 returns-2 c =
     let g = c .before .before .loop .inv in
-    (g .feeds, went-onward g (λ e. omega (arith, c .if1 .left, c .before .before .before .before .before .before .before .before .pre)))
+    (g .feeds, loop-advances g (λ e. omega (arith, c .if1 .left, c .before .before .before .before .before .before .before .before .pre)))
 
 pub feed-spec : {M : Type 1} → statement M
 feed-spec =

@@ -1,8 +1,8 @@
--- A part in which no line ends is held, and a line that ends is answered from what is held of it.
+-- A part in which no line ends is held; a line that ends is answered from what is held of it.
 use mathlib.Core.Path.{sym}
 use native.Mathlib.Omega.{arith}
 use lib.Seq.{length-take-le}
-use Rattle.lines.proofs.Stepping.{end-within, held-within, steps-part, part-moves, steps-line, line-moves}
+use Rattle.lines.proofs.Stepping.{end-within, held-within, steps-part, part-advances, steps-line, line-advances}
 use Rattle.lines.proofs.session.step.Statement.{statement}
 use Rattle.lines.proofs.session.step.Tie as tie
 
@@ -18,7 +18,7 @@ returns c =
     let e = c .before .before .before .before .before .before .line-end in
     let h = c .before .before .before .hold in (
       steps-part (a .piece .now) (a .from) (e .result) (e .ensures) (pre .1 .1 .1) (a .session) (pre .1 .1 .0 .0) (pre .1 .1 .0 .1) (h .ensures) (a .table .now) (a .words .now) (a .out .now) (a .at) (c .if1 .taken),
-      part-moves (a .piece .now) (a .from) (e .result) (e .ensures) (pre .1 .1 .1) (a .session) (pre .1 .1 .0 .0) (pre .1 .1 .0 .1) (h .ensures) (a .table .now) (a .words .now) (a .out .now) (a .at) (c .if1 .taken) (omega (arith, pre .1 .0)),
+      part-advances (a .piece .now) (a .from) (e .result) (e .ensures) (pre .1 .1 .1) (a .session) (pre .1 .1 .0 .0) (pre .1 .1 .0 .1) (h .ensures) (a .table .now) (a .words .now) (a .out .now) (a .at) (c .if1 .taken) (omega (arith, pre .1 .0)),
     )
 
 slice-reshare-prefix-answer : tie.Need-slice-reshare-prefix-answer
@@ -40,9 +40,9 @@ returns-2 c =
     let h = c .before .before .before .before .before .before .before .before .before .before .before .before .before .before .before .hold in
     let r = c .before .before .before .before .before .before .before .answer .ensures in
     let more = c .before .before .before .before .before .before .before .before .before .before .before .before .if1 .left in
-    rw (c .ended .ensures) (
+    rw (c .after-line .ensures) (
       steps-line (a .piece .now) (a .from) (e .result) (e .ensures) (pre .1 .1 .1) (a .session) (pre .1 .1 .0 .0) (pre .1 .1 .0 .1) (h .ensures) (a .table .now) (a .words .now) (a .out .now) (a .at) more r,
-      line-moves (a .piece .now) (a .from) (e .result) (e .ensures) (pre .1 .1 .1) (a .session) (pre .1 .1 .0 .0) (pre .1 .1 .0 .1) (h .ensures) (a .table .now) (a .words .now) (a .out .now) (a .at) more r,
+      line-advances (a .piece .now) (a .from) (e .result) (e .ensures) (pre .1 .1 .1) (a .session) (pre .1 .1 .0 .0) (pre .1 .1 .0 .1) (h .ensures) (a .table .now) (a .words .now) (a .out .now) (a .at) more r,
     )
 
 pub step-spec : {M : Type 1} → statement M

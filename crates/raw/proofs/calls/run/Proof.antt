@@ -8,11 +8,11 @@ use Rattle.raw.proofs.calls.run.Tie as tie
 
 returns : tie.Need-returns
 returns c =
-    let ran = c .before .before .before .before .before .before .run-on-prefixes .ensures in
+    let result = c .before .before .before .before .before .before .run-on-prefixes .ensures in
     let on = c .before .before .before .before .before .if1 .taken in (
       c .with-header-of .ensures .0,
       record {
-        kept = λ _. (c .with-header-of .ensures .1 ∙ ap (λ (reply : Reply). withHeader (c .before .before .before .before .before .before .before .before .before .before .before .args .state) (reply .header)) (ran .reply), c .before .copy-back .ensures ∙ ran .table);
+        kept = λ _. (c .with-header-of .ensures .1 ∙ ap (λ (reply : Reply). withHeader (c .before .before .before .before .before .before .before .before .before .before .before .args .state) (reply .header)) (result .reply), c .before .copy-back .ensures ∙ result .table);
         untouched = λ off. (cc, cc);
       },
     )

@@ -1,7 +1,7 @@
--- A line that was read is a sample for its seat; any other leaves the tray.
+-- A line that was read is a sample for its seat; any other leaves the tray as it is.
 use mathlib.Core.Path.{refl, ap, _∙_}
 use borrow.Author.Needs.{needs}
-use Rattle.tray_lines.specs.Reply.{textOf}
+use Rattle.tray_lines.specs.Reply.{fieldsOf}
 use Rattle.tray_lines.proofs.answer.answer_line.Statement.{statement}
 use Rattle.tray_lines.proofs.answer.answer_line.Tie as tie
 
@@ -20,13 +20,13 @@ cast-sampled c = search needs
 sampled-requires : tie.Need-sampled-requires
 sampled-requires c κs = search needs
 
-text-of-requires : tie.Need-text-of-requires
-text-of-requires c κs = search needs
+fields-of-requires : tie.Need-fields-of-requires
+fields-of-requires c κs = search needs
 
 returns-2 : tie.Need-returns-2
 returns-2 c =
     let done = c .before .before .sampled .ensures in
-    rw (c .before .before .before .before .line .given .1) (done .0, done .1 .leaves, c .text-of .ensures ∙ ap textOf (done .1 .answers))
+    rw (c .before .before .before .before .line .given .1) (done .0, done .1 .leaves, c .fields-of .ensures ∙ ap fieldsOf (done .1 .answers))
 
 pub answer-line-spec : {M : Type 1} → statement M
 answer-line-spec =
@@ -37,5 +37,5 @@ answer-line-spec =
     returns
     cast-sampled
     sampled-requires
-    text-of-requires
+    fields-of-requires
     returns-2)

@@ -1,4 +1,4 @@
--- The loop's invariant: the buffers keep their sizes, and a byte is counted down for each that is held.
+-- The loop's invariant: the buffers keep their sizes, and a byte is counted down for each byte held.
 use Prim.Native.Nat.{_+_, _≤_}
 use mathlib.Core.Path.{_≡_, sym}
 use mathlib.Core.Bool.{true≢false}

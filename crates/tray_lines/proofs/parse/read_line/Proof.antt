@@ -1,4 +1,4 @@
--- The line is parted at its first tab; a line without one has no second number.
+-- The line is split at its first tab; a line without a tab has no second number.
 use Prim.Native.Nat.{suc, _+_, _-_, _≤_}
 use mathlib.Core.Path.{_≡_, refl, sym, _∙_}
 use mathlib.Core.List.{[]}

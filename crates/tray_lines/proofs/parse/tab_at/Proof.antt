@@ -1,4 +1,4 @@
--- The loop's invariant: the bytes passed and those before the first tab of the rest are those before the first tab of the line.
+-- The loop's invariant: the bytes passed, and the bytes of the rest before its first tab, are those of the line before its first tab.
 use Prim.Native.Nat.{_+_, _-_, _≤_}
 use mathlib.Core.Path.{_≡_}
 use native.Mathlib.Numerals.{add-one}

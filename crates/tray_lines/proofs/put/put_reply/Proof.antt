@@ -26,10 +26,10 @@ few-digits n k fits fewest = by-cases (leb k 20) refl
         absurd (let none : ⊥ = omega arith in none)
 
 abbrev Inv-loop : tie.InvT-loop
-Inv-loop out₀ at line text digits n i₀ out i = (length out ≡ length out₀) × (i ≤ n) × (n ≤ 20) × (n ≤ length digits) × (at + 32 ≤ length out₀)
+Inv-loop out₀ at line fields digits n i₀ out i = (length out ≡ length out₀) × (i ≤ n) × (n ≤ 20) × (n ≤ length digits) × (at + 32 ≤ length out₀)
 
 abbrev μ-loop : tie.MeasureT-loop
-μ-loop out₀ at line text digits n i₀ out i = n - i
+μ-loop out₀ at line fields digits n i₀ out i = n - i
 
 decimal-requires : tie.Need-decimal-requires Inv-loop μ-loop
 decimal-requires c κs = search needs

@@ -1,13 +1,13 @@
 -- Each arm makes its own call.
 use mathlib.Core.Path.{sym, _∙_}
-use Rattle.lines.specs.Answering.{looked}
-use Rattle.lines.proofs.Looking.{looked-audit}
-use Rattle.lines.proofs.answer.look.Statement.{statement}
-use Rattle.lines.proofs.answer.look.Tie as tie
+use Rattle.lines.specs.Answering.{readOnlyReply}
+use Rattle.lines.proofs.ReadOnly.{other-calls-audit}
+use Rattle.lines.proofs.answer.run_read_only.Statement.{statement}
+use Rattle.lines.proofs.answer.run_read_only.Tie as tie
 
-pub look-spec : {M : Type 1} → statement M
-unfolding looked
-look-spec =
+pub run-read-only-spec : {M : Type 1} → statement M
+unfolding readOnlyReply
+run-read-only-spec =
     tie.close
     (tie.spec
     (λ c. c .match .keys1)
@@ -29,4 +29,4 @@ look-spec =
     (λ c. rw (c .before .before .call4 .given .1) (c .gap .ensures))
     (λ c. rw (c .before .enum-told .given .1) (c .first .ensures))
     (λ c. rw (c .before .enum-told2 .given .1) (c .last .ensures))
-    (λ c. c .audit .ensures ∙ sym (looked-audit (c .before .before .before .args .header) (c .before .before .before .args .table .now) (c .before .before .before .args .call) (c .before .match .keys7))))
+    (λ c. c .audit .ensures ∙ sym (other-calls-audit (c .before .before .before .args .header) (c .before .before .before .args .table .now) (c .before .before .before .args .call) (c .before .match .keys7))))

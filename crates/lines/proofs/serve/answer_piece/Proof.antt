@@ -1,21 +1,21 @@
--- The loop's invariant: the slices have their sizes, and the piece was taken in up to the place reached.
+-- The loop's invariant: the slices keep their sizes, and the piece was taken in up to `progress.from`.
 use Prim.Native.Nat.{_-_}
 use mathlib.Core.Path.{refl, sym, _∙_}
 use mathlib.Core.Bool.{false≢true}
 use native.Mathlib.Omega.{arith}
 use lib.ListN.{length}
 use lib.Seq.{length-take-le}
-use Rattle.lines.proofs.Serving.{Lent, Speaking, lent-on, spoke-none, spoke-on, took, tells, few-held, reached-here}
-use Rattle.lines.proofs.serve.speak.Statement.{statement}
-use Rattle.lines.proofs.serve.speak.Tie as tie
+use Rattle.lines.proofs.Serving.{Lent, PieceLoop, lent-after, piece-start, piece-after-feed, piece-taken, is-output, few-held, reached-here}
+use Rattle.lines.proofs.serve.answer_piece.Statement.{statement}
+use Rattle.lines.proofs.serve.answer_piece.Tie as tie
 
 abbrev Inv-loop : tie.InvT-loop
-Inv-loop piece table₀ words₀ buffer₀ out₀ went₀ table words buffer out went =
+Inv-loop piece table₀ words₀ buffer₀ out₀ progress₀ table words buffer out progress =
     Lent table₀ words₀ buffer₀ out₀ table words buffer out
-    × Speaking piece (went₀ .session) table₀ words₀ buffer₀ (went .session) (went .from) table words buffer
+    × PieceLoop piece (progress₀ .session) table₀ words₀ buffer₀ (progress .session) (progress .from) table words buffer
 
 abbrev μ-loop : tie.MeasureT-loop
-μ-loop piece table₀ words₀ buffer₀ out₀ went₀ table words buffer out went = length piece - went .from
+μ-loop piece table₀ words₀ buffer₀ out₀ progress₀ table words buffer out progress = length piece - progress .from
 
 loop-holds : tie.Need-loop-holds Inv-loop μ-loop
 loop-holds c =
@@ -28,7 +28,7 @@ loop-holds c =
         holds = pre .0 .holds;
         room = pre .0 .room;
       },
-      spoke-none (pre .1 .0) (pre .1 .1),
+      piece-start (pre .1 .0) (pre .1 .1),
     )
 
 feed-requires : tie.Need-feed-requires Inv-loop μ-loop
@@ -45,29 +45,29 @@ write-requires : tie.Need-write-requires Inv-loop μ-loop
 write-requires c κs =
     let f = c .before .before .before .before .before .before .before .before .before .feed in
     let i = c .before .before .before .before .before .before .before .before .before .before .before .before .before .before .before .before .loop .inv in
-    tells (i .1) (f .ensures .0) (f .ensures .1) (f .kept .1 .1 .1 .1 .1 .1 .0)
+    is-output (i .1) (f .ensures .0) (f .ensures .1) (f .kept .1 .1 .1 .1 .1 .1 .0)
 
 returns : tie.Need-returns Inv-loop μ-loop
 returns c =
     let f = c .before .before .before .before .before .before .before .before .before .before .before .before .feed in
-    let s = c .spoke-of .ensures in
-    took (spoke-on (c .before .before .before .before .before .before .before .before .before .before .before .before .before .before .before .before .before .before .before .loop .inv .1) (f .ensures .0) (f .ensures .1)) (s .0) (λ e. absurd (false≢true (sym (s .1) ∙ e)))
+    let s = c .piece-result .ensures in
+    piece-taken (piece-after-feed (c .before .before .before .before .before .before .before .before .before .before .before .before .before .before .before .before .before .before .before .loop .inv .1) (f .ensures .0) (f .ensures .1)) (s .0) (λ e. absurd (false≢true (sym (s .1) ∙ e)))
 
 loop-again : tie.Need-loop-again Inv-loop μ-loop
 loop-again c =
     let f = c .before .before .before .before .before .before .before .before .before .before .before .feed in
     let i = c .before .before .before .before .before .before .before .before .before .before .before .before .before .before .before .before .before .before .loop .inv in (
-      lent-on (i .0) (f .kept .1 .1 .1 .0) (f .kept .1 .1 .1 .1 .0) (f .kept .1 .1 .1 .1 .1 .0) (f .kept .1 .1 .1 .1 .1 .1 .0),
-      spoke-on (i .1) (f .ensures .0) (f .ensures .1),
+      lent-after (i .0) (f .kept .1 .1 .1 .0) (f .kept .1 .1 .1 .1 .0) (f .kept .1 .1 .1 .1 .1 .0) (f .kept .1 .1 .1 .1 .1 .1 .0),
+      piece-after-feed (i .1) (f .ensures .0) (f .ensures .1),
     )
 
 returns-2 : tie.Need-returns-2 Inv-loop μ-loop
 returns-2 c =
     let i = c .before .before .before .loop .inv .1 in
-    took i (c .spoke-of2 .ensures .0) (λ e. omega (arith, i .within, c .before .if1 .left))
+    piece-taken i (c .piece-result2 .ensures .0) (λ e. omega (arith, i .within, c .before .if1 .left))
 
-pub speak-spec : {M : Type 1} → statement M
-speak-spec =
+pub answer-piece-spec : {M : Type 1} → statement M
+answer-piece-spec =
     tie.close
     (tie.spec
     Inv-loop

@@ -10,12 +10,12 @@ use Rattle.tray.specs.declared.Verdict.the-variants.{Counted, WrongWidth, WordT
 use Rattle.tray.specs.Verdict.{numberOf}
 use Rattle.tray.proofs.Tags.{later}
 use Rattle.tray.proofs.Verdict.{the-type}
-use Rattle.tray_lines.specs.declared.answer.Text.{Text}
-use Rattle.tray_lines.specs.Reply.{textOf}
-use Rattle.tray_lines.proofs.answer.text_of.Statement.{statement}
-use Rattle.tray_lines.proofs.answer.text_of.Tie as tie
+use Rattle.tray_lines.specs.declared.answer.ReplyFields.{ReplyFields}
+use Rattle.tray_lines.specs.Reply.{fieldsOf}
+use Rattle.tray_lines.proofs.answer.fields_of.Statement.{statement}
+use Rattle.tray_lines.proofs.answer.fields_of.Tie as tie
 
-no-alarm : (v : Verdict) → 0 < tagOf the-type v → record { answer = numberOf v; repetition = false; proportion = false } ≡ textOf v
+no-alarm : (v : Verdict) → 0 < tagOf the-type v → record { answer = numberOf v; repetition = false; proportion = false } ≡ fieldsOf v
 no-alarm (Counted a b) h = absurd (let none : ⊥ = omega arith in none)
 no-alarm WrongWidth h = refl
 no-alarm WordTooWide h = refl
@@ -35,5 +35,5 @@ returns c = rw (c .before .before .before .number .ensures, c .before .verdict .
 returns-2 : tie.Need-returns-2
 returns-2 c = rw (c .before .number .ensures) (no-alarm (c .before .before .args .verdict) (later _ (c .match .keys2)))
 
-pub text-of-spec : {M : Type 1} → statement M
-text-of-spec = tie.close (tie.spec number-requires enum-known-verdict returns returns-2)
+pub fields-of-spec : {M : Type 1} → statement M
+fields-of-spec = tie.close (tie.spec number-requires enum-known-verdict returns returns-2)
