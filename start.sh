@@ -1,8 +1,8 @@
-# Sourced by ./run, ./tray and ./powerup, which set `called`, their own name, and `name`, the program's.
+# Sourced by ./run, ./tray and ./powerup. They set `called` to their own name and `name` to the name of the program.
 root=$(cd "$(dirname "${BASH_SOURCE[0]}")" && pwd) || exit 2
 command -v rt >/dev/null || { echo "$called: the Rattle kit's 'rt' is not on the path" >&2; exit 2; }
 
-# Builds the program where that is still to do. On a terminal it names each crate as it is proved; otherwise it is silent unless it fails.
+# Builds the program if needed. On a terminal it names each crate as it is proved. Otherwise it is silent unless the build fails.
 build() {
     [ -f "$root/target/bin/$name" ] || echo "$called: building the program; the first time takes some minutes" >&2
     local log status
@@ -15,7 +15,7 @@ build() {
     [ "$status" = 0 ] || exit 1
 }
 
-# Starts it as the kit itself does: with the kit's loader and C library, and under its emulator on a machine that is not x86-64.
+# Starts the program as the kit does: with the kit's loader and C library, and in the kit's emulator if the machine is not x86-64.
 program() {
     local tools emulator
     tools=$(cd "$(dirname "$(rt doc)")/../on/$(uname -m)/toolchain" && pwd) || exit 2
@@ -24,7 +24,7 @@ program() {
     ${emulator:+"$emulator"} "$tools/lib/ld-linux-x86-64.so.2" --library-path "$tools/lib" "$root/target/bin/$name" "$@"
 }
 
-# The same, with a status. A program of Rattle has none: it writes `ok` to descriptor 3 once all that it had to write is written.
+# Starts the program and returns an exit status. A Rattle program has none, so it writes `ok` to descriptor 3 once all its output is written.
 program_with_status() {
     exec 4>&1
     [ "$(program "$@" 3>&1 >&4 4>&-)" = ok ]

@@ -1,5 +1,5 @@
-/* The eleven calls as C sees them, twice: `words_` is the proved library (crates/words), `plain_` the same in unchecked C (plain.c).
-   A table is a pointer and its length in words; a reply is six words. */
+/* The eleven calls as C functions. `words_` is the proved library (crates/words); `plain_` is the same without checks (plain.c).
+   A table is a pointer and its length in words. A reply is six words. */
 #ifndef CALLS_H
 #define CALLS_H
 

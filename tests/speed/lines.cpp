@@ -1,9 +1,10 @@
-// The line language of document 01 over std::set, to compare with the line program.
+// The line language over std::set, for comparison with the line program. docs/FORMAT.md describes the language.
 //
-//     lines plain     reads by std::getline and writes to std::cout
-//     lines tuned     reads pieces of 64 KiB by fread, and writes by std::to_chars into a buffer
+//     lines plain     reads with std::getline and writes to std::cout
+//     lines tuned     reads pieces of 64 KiB with fread, and writes numbers with std::to_chars into a buffer
 //
-// The replies are those of the line program, but that a std::set reads no rows: both row counts are written as 0, and `audit` answers 0.
+// The replies are those of the line program, with two exceptions: both row counts are 0, because a std::set has no rows, and `audit` always
+// answers 0.
 #include <charconv>
 #include <cstdint>
 #include <cstdio>

@@ -1,8 +1,9 @@
-/* The calls in plain C, with the same replies on a sound table and no checks: a table that is not sound, a word that is too wide or an
-   `add` to a full table does harm. Document 01, "The ways", says what each does. Only `audit` looks for damage: that is its work.
+/* The calls in plain C without checks. On a sound table the replies are those of the library. A table that is not sound, a word that is
+   too wide or an `add` to a full table makes the behaviour undefined. Only `audit` looks for damage, because that is its task. docs/FORMAT.md,
+   "The calls", says what each call does.
 
-   `bits` is the word with its next deciding bit on top, so a turn is one shift. On a sound table no way needs to know its depth: a row
-   at depth W has the word itself, and no links. */
+   `bits` is the word shifted so that its next deciding bit is on top, so a turn is one shift. No way tracks its depth: on a sound table a
+   row at depth W holds the word itself and has no links, so the way stops there. */
 #include "calls.h"
 
 #include <string.h>
@@ -53,7 +54,7 @@ READING_WORD(plain_next)
         }
         uint32_t side = bits >> 31, link = row[1 + side], skipped = row[2] & (side - 1);
         if (skipped != 0)
-            aside = skipped; /* the deepest right link on a turn to the left */
+            aside = skipped; /* the deepest right link where the way turned left */
         if (link == 0)
             break;
         bits <<= 1;
@@ -65,7 +66,7 @@ READING_WORD(plain_next)
         answer(reply, DONE, table[3 * (size_t)aside], rows + 1, width, count);
 }
 
-/* The greatest word from a row down, by right link, else left link. */
+/* The greatest word of a row's part: follows the right link, else the left link. */
 static inline uint32_t greatest(const uint32_t *table, uint32_t at, uint32_t *rows)
 {
     for (;;) {
@@ -104,7 +105,7 @@ READING_WORD(plain_prev)
     answer(reply, DONE, key, rows, width, count);
 }
 
-/* One way serves for both neighbours: they differ only behind its end. */
+/* One way serves for both neighbours. `prev` and `next` read different rows only after its end. */
 READING_WORD(plain_gap)
 {
     UNUSED(length);
@@ -191,7 +192,7 @@ WRITING_WORD(plain_add)
         answer(reply, ALREADY_THERE, 0, rows, width, count);
         return;
     }
-    /* the row takes the word, and its old key is pushed down by its own bits */
+    /* the push: the row takes the word, and its old key goes down by its own bits */
     for (uint32_t depth = rows + 31 - width; count != 0; depth++) {
         uint32_t old = row[0];
         row[0] = key;
@@ -231,7 +232,7 @@ WRITING_WORD(plain_del)
         answer(reply, NO_SUCH_WORD, 0, rows, width, count);
         return;
     }
-    /* each row takes the key below, by left link, else right link; the last is the hole */
+    /* the stretch, left first: each row takes the key of the row below; the last row is the hole */
     for (;;) {
         uint32_t *down = row[1] != 0 ? row + 1 : row + 2;
         if (*down == 0)
@@ -247,7 +248,7 @@ WRITING_WORD(plain_del)
         *link = 0;
     uint32_t *end = table + 3 * (size_t)last;
     if (hole != last) {
-        /* the way to the last row: its key has the bits of its path, so only links are read */
+        /* the second way: the key of the last row has the bits of its path, so no other key needs to be read */
         uint32_t path = aligned(end[0], width), at = 0, *to = NULL;
         for (moved = 1; at != last; moved++) {
             to = table + 3 * (size_t)at + 1 + (path >> 31);
@@ -265,7 +266,7 @@ WRITING_WORD(plain_del)
     *reply = (Reply){DONE, 0, rows, moved, width, last};
 }
 
-/* The rows of a row's part, or -1 where it has damage. `low` is the least key that may come next: keys strictly increase in this order. */
+/* The number of rows in a row's part, or -1 if the part has damage. `low` is the least key that may come next, because keys strictly increase. */
 static int64_t sound_rows(const uint32_t *table, uint32_t count, uint32_t at, uint32_t bits, uint64_t path, uint64_t *low)
 {
     if (at >= count)

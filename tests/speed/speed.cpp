@@ -1,13 +1,13 @@
-// Runs the same calls on the proved library, on unchecked C, and on other ordered sets, in one process.
+// Runs the same calls on the proved library, on the C version without checks and on other ordered sets, in one process.
 //
-//     speed check            compares all of them on random calls; any difference ends it with status 1
+//     speed check            compares all sets on random calls; a difference ends it with status 1
 //     speed time N ROUNDS    writes a line for each call and set: call, set, N, calls, rows read, picoseconds a call
-//     speed count N          the same without times, for callgrind: a dump named "call set" for each line
+//     speed count N          the same without times, for callgrind: makes a dump named "call set" for each line
 //
-// The sets take turns, a round each. A time is the best round's, after a first that does not count; a round's time is the median of its
-// slices of at most 1,024 calls. So what else the machine does in between counts little.
+// The sets take turns, one round each. A round's time is the median of its slices of at most 1,024 calls. The time written is that of the best
+// round; a first round is not counted. So other work on the machine has little effect.
 //
-// Words are 32 bits wide but in `check`. Every set gets the same words and the same calls, and all must give the same answers.
+// Words are 32 bits wide, except in `check`. Every set gets the same words and the same calls, and all must give the same answers.
 #include "calls.h"
 
 #include <algorithm>
@@ -100,7 +100,7 @@ template <class Calls> struct Table {
     }
 };
 
-// The distance to the nearer of two neighbours, of which there may be one or none.
+// The distance to the nearer neighbour. Either neighbour, or both, may be missing.
 static Answer nearer(bool some_below, uint32_t below, bool some_above, uint32_t above, uint32_t k)
 {
     if (!some_below && !some_above)
@@ -323,13 +323,13 @@ struct List {
 
 // ---- The meter ----
 
-// How many calls are timed at once: one where a call reads every row.
+// How many calls are timed together. It is one for calls that go through the whole table.
 template <class Call> constexpr size_t slice = 1024;
 template <> constexpr size_t slice<List> = 1;
 template <> constexpr size_t slice<Audit> = 1;
 template <> constexpr size_t slice<New> = 1;
 
-// Times, or the instructions that callgrind collects; and what was answered, which has to be the same for every set.
+// Measures times, or lets callgrind count instructions. `answers` is a sum over all answers; it must be the same for every set.
 struct Meter {
     bool counts = false;
     uint64_t calls = 0, rows = 0, answers = 0;
@@ -347,11 +347,11 @@ struct Meter {
         for (size_t i = 0; i < n; i++) {
             Answer a = Call::of(set, words[i]);
             sum += a.number * 1000003u + a.key;
-            asm volatile("" ::: "memory"); // no call is left out because it answers what the one before it did
+            asm volatile("" ::: "memory"); // keeps the compiler from leaving out a call whose answer it could reuse
         }
         answers += sum;
     }
-    // `n` calls, of which call i has the word words[i], metered
+    // `n` calls, measured; call i gets words[i]
     template <class Call, class Set> void metered(Set &set, const uint32_t *words, size_t n)
     {
         calls += n;
@@ -369,7 +369,7 @@ struct Meter {
             slices.push_back(took.count() / some);
         }
     }
-    // the same without the meter, to change the set or to sum the rows
+    // the same, not measured: to change the set, or to sum the rows
     template <class Call, class Set> void unmetered(Set &set, const uint32_t *words, size_t n)
     {
         for (size_t i = 0; i < n; i++) {
@@ -382,8 +382,8 @@ struct Meter {
 
 // ---- What is run ----
 
-// The words of a set, the words that are asked of it, and batches of words to add and then to delete, after which the set is as large
-// as before.
+// The words of a set, the words of the reading calls, and batches for `add` and `del`. A batch is added and as many words are then deleted, so
+// the set is then as large as before.
 struct Plan {
     size_t n;
     Words words, asked, base;
@@ -431,7 +431,7 @@ struct Runner {
 
     Runner(size_t n, size_t calls, bool counts, int rounds) : plan(n, calls), counts(counts), rounds(rounds) {}
 
-    // Runs `work(set, meter)` on every set in turn, for `rounds` rounds after one that is not counted, and writes a line for each set.
+    // Runs `work(set, meter)` on every set in turn, and writes a line for each set. A first round is not counted when times are measured.
     template <class Accepts, class Work> void row(const char *call, Accepts accepts, Work work)
     {
         struct Result {
@@ -479,7 +479,7 @@ struct Runner {
         });
     }
 
-    // One of `add` and `del` is metered.
+    // `add` and `del` alternate; only `Call` is measured.
     template <class Call> void changes()
     {
         row(Call::name, all, [&](auto &set, Meter &meter) {
@@ -495,7 +495,7 @@ struct Runner {
                 else
                     other.unmetered<Del>(set, dels.data(), dels.size());
             }
-            if constexpr (std::decay_t<decltype(set)>::is_table) { // once more, for the rows
+            if constexpr (std::decay_t<decltype(set)>::is_table) { // once more, to sum the rows
                 set.build(plan.base, plan.n);
                 for (auto &[adds, dels] : plan.batches) {
                     Meter other;
@@ -540,7 +540,7 @@ static size_t compared(uint32_t width, size_t capacity, size_t calls, uint32_t s
     auto &plain = std::get<1>(sets);
     each(sets, [&](auto &set) { set.build({}, capacity, width); });
     uint32_t most = width == 32 ? UINT32_MAX : (1u << width) - 1;
-    // few different words, so that many are found
+    // draw from few different words, so that many are found
     Words words;
     while (words.size() < capacity * 2)
         words.push_back(random() & most);
