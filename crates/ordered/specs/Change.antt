@@ -5,7 +5,7 @@ use mathlib.Core.List.{List, [], _∷_, _++_}
 use lib.Dec.{eqb}
 use Rattle.ordered.specs.Such.{if_then_else_, Perhaps, no-such, such, last-such, anything, isThere}
 use Rattle.ordered.specs.Word.{Side, left}
-use Rattle.ordered.specs.Dictionary.{Entry}
+use Rattle.ordered.specs.Dictionary.{Entry, no-entry}
 use Rattle.ordered.specs.Tree.{Tree, none, row, damaged}
 use Rattle.ordered.specs.Way.{Way, Step, way, joined, following, pushing, down}
 use Rattle.ordered.specs.Reading.{end-if}
@@ -85,9 +85,9 @@ numberAt (row i e l r) = i
 numberAt damaged = 0
 
 abbrev pub entryAt : Tree → Entry
-entryAt none = record { key = 0 }
+entryAt none = no-entry
 entryAt (row i e l r) = e
-entryAt damaged = record { key = 0 }
+entryAt damaged = no-entry
 
 abbrev pub erasing-by : Way → Way → Way → Bool → Erasing
 erasing-by w stretch whole false =

@@ -10,6 +10,10 @@ use Rattle.ordered.specs.Such.{if_then_else_, Perhaps, its, first-such, 
 pub record Entry : Type 0 where
   pub key : ℕ
 
+-- where there is no entry, this one stands for it
+abbrev pub no-entry : Entry
+no-entry = record { key = 0 }
+
 -- the words of a list of entries
 abbrev pub words : List Entry → List ℕ
 words [] = []

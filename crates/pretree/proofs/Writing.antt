@@ -6,8 +6,9 @@ use native.Mathlib.Nat.{add-zero}
 use native.Mathlib.Omega.{arith}
 use lib.ListN.{length, getD, length-set}
 use lib.Seq.{getD-set-other}
+use Rattle.ordered.specs.Dictionary.{Entry}
 use Rattle.ordered.specs.Word.{sideOf, bitOf}
-use Rattle.pretree.specs.Table.{capacity, rowAt, link, withKey}
+use Rattle.pretree.specs.Table.{capacity, rowAt, link, withEntry}
 
 -- a bit is that of the side to which it goes
 pub bit-of-side : (b : ℕ) → b < 2 → bitOf (sideOf b) ≡ b
@@ -35,14 +36,18 @@ pub same-capacity : (a b : List ℕ) → length a ≡ length b → capacity a �
 unfolding capacity
 same-capacity a b e = rw e
 
-pub key-length : (i k : ℕ) (table : List ℕ) → length (withKey i k table) ≡ length table
-unfolding withKey
-key-length i k table = length-set table (3 * i) k
+pub entry-length : (i : ℕ) (e : Entry) (table : List ℕ) → length (withEntry i e table) ≡ length table
+unfolding withEntry
+entry-length i e table = length-set table (3 * i) (e .key)
 
-pub other-row : (i k : ℕ) (table : List ℕ) (j : ℕ) → (j ≡ i → ⊥) → rowAt (withKey i k table) j ≡ rowAt table j
-unfolding rowAt withKey
-other-row i k table j apart =
-    let at : 3 * j ≡ 3 * i → ⊥ = λ e. omega arith in
-    let at1 : 3 * j + 1 ≡ 3 * i → ⊥ = λ e. omega arith in
-    let at2 : 3 * j + 2 ≡ 3 * i → ⊥ = λ e. omega arith in
-    rw (getD-set-other table (3 * i) (3 * j) k 0, getD-set-other table (3 * i) (3 * j + 1) k 0, getD-set-other table (3 * i) (3 * j + 2) k 0)
+pub other-row : (i : ℕ) (e : Entry) (table : List ℕ) (j : ℕ) → (j ≡ i → ⊥) → rowAt (withEntry i e table) j ≡ rowAt table j
+unfolding rowAt withEntry
+other-row i e table j apart =
+    let at : 3 * j ≡ 3 * i → ⊥ = λ same. omega arith in
+    let at1 : 3 * j + 1 ≡ 3 * i → ⊥ = λ same. omega arith in
+    let at2 : 3 * j + 2 ≡ 3 * i → ⊥ = λ same. omega arith in
+    rw (
+      getD-set-other table (3 * i) (3 * j) (e .key) 0,
+      getD-set-other table (3 * i) (3 * j + 1) (e .key) 0,
+      getD-set-other table (3 * i) (3 * j + 2) (e .key) 0,
+    )
