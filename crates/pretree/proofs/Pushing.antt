@@ -24,7 +24,7 @@ use Rattle.pretree.specs.Add.{taking}
 use Rattle.pretree.specs.Push.{onward, takes-from, left-from, Rising}
 use Rattle.pretree.proofs.Unfolding.{path-in-key, is-damaged, is-row}
 use Rattle.pretree.proofs.Walking.{at-none}
-use Rattle.pretree.proofs.Writing.{entry-length, other-row}
+use Rattle.pretree.proofs.Rows.{entry-length, entry-elsewhere}
 
 -- what rises below a number and from another on does so below a greater one and from a smaller one on
 pub rises-within : (rows : ℕ → Row) (top top′ end n i low : ℕ) → top ≤ top′ → Rising rows top end n i low → Rising rows top′ end n i 0
@@ -168,7 +168,7 @@ module _ (table₀ : List ℕ) (end n₀ i₀ : ℕ) (e₀ : Entry) where
           untouched =
               λ j l.
               let apart : j ≡ i → ⊥ = λ same. omega (arith, ap (λ (x : ℕ). rowAt table₀ x .entry .key) same) in
-              other-row i (fromCode e) table j apart ∙ p .untouched j (le-trans (p .ahead .1) (le-of-lt l));
+              entry-elsewhere i table j apart (fromCode e) ∙ p .untouched j (le-trans (p .ahead .1) (le-of-lt l));
           takes = p .takes;
           left = p .left;
           same-length = entry-length i (fromCode e) table ∙ p .same-length;

@@ -24,7 +24,8 @@ use Rattle.pretree.specs.Add.{taking}
 use Rattle.pretree.specs.Erased.{beneath, raising, Rises}
 use Rattle.pretree.proofs.Unfolding.{is-damaged, is-row}
 use Rattle.pretree.proofs.Falling.{down-says}
-use Rattle.pretree.proofs.Writing.{same-capacity, entry-length, other-row}
+use Rattle.pretree.proofs.Writing.{same-capacity}
+use Rattle.pretree.proofs.Rows.{entry-length, entry-elsewhere}
 
 -- the link that the way follows is the one below, and there is one
 record Follows (r : Row) (s : Side) (below : ℕ) : Type 0 where
@@ -170,7 +171,7 @@ module _ (start : List ℕ) (from steps : ℕ) (table : List ℕ) (at left : ℕ
       record {
         rises = risen .1;
         rest = rw one-more at (k .rest);
-        same = λ i l. other-row at _ table i (λ e. apart i l e) ∙ k .same i (le-trans (le-of-lt (risen .0)) l);
+        same = λ i l. entry-elsewhere at table i (λ e. apart i l e) _ ∙ k .same i (le-trans (le-of-lt (risen .0)) l);
         long = entry-length at _ table ∙ k .long;
       }
     where
