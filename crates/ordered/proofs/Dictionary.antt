@@ -1,6 +1,7 @@
--- The operations of the ordered dictionary do what source 004 says of them, in its order; and its words fix each answer, and a set.
+-- The operations of the ordered dictionary do what source 004 says of them, in its order, about the words of the set; and its words fix each
+-- answer, and the words of a set.
 use Prim.Native.Nat.{ℕ, _<_}
-use mathlib.Core.Path.{_≡_, refl, sym, ap, ap₂}
+use mathlib.Core.Path.{_≡_, refl, sym, ap, ap₂, subst}
 use mathlib.Core.Logic.{_↔_, _⊎_, inl, inr, ⊎-elim, ⊎-swap, Iff·symm, Iff·trans}
 use mathlib.Core.Bool.{Bool, true, false, _||_, false≢true}
 use mathlib.Core.List.{List, [], _∷_}
@@ -9,8 +10,8 @@ use native.Mathlib.Nat.{le-antisymm, le-of-lt}
 use native.Mathlib.Omega.{arith}
 use lib.Dec.{ltb, eqb}
 use borrow.Author.Tests.{eqb-true, eqb-false, eq-eqb}
-use Rattle.ordered.specs.Such.{Perhaps, such, first-of, only-if, first-such, last-such, anything}
-use Rattle.ordered.specs.Dictionary.{Above, none-above, one-above, Increasing, none-increasing, one-increasing}
+use Rattle.ordered.specs.Such.{if_then_else_, Perhaps, no-such, such, its, isThere, first-of, only-if, first-such, last-such, anything}
+use Rattle.ordered.specs.Dictionary.{Entry, words, wordOf, Above, none-above, one-above, Increasing, none-increasing, one-increasing}
 use Rattle.ordered.specs.Dictionary.{insert, is-empty, lookup, delete, max, min, successor, predecessor}
 use Rattle.ordered.specs.Said.{_∈_, Adds, Whether, Removes, Foremost, it-is, none-is, Least, Greatest}
 use Rattle.ordered.proofs.Lists.{by-test, by-order, cons-elements, append-elements}
@@ -19,6 +20,10 @@ use Rattle.ordered.proofs.Lists.{above-less, less-above, above-smaller,
 -- an element is added by leaving the set as it is
 element-adds : {x : ℕ} {s : List ℕ} → x ∈ s → Adds x s s
 element-adds m y = (λ n. inr n, ⊎-elim (λ e. Memᴰ·cast e m) (λ n. n))
+
+-- and so is the head where an equal word takes its place
+head-adds : {x y : ℕ} {s : List ℕ} → x ≡ y → Adds x (y ∷ s) (x ∷ s)
+head-adds {x} {s} same = subst (λ y. Adds x (y ∷ s) (x ∷ s)) same (element-adds (List·Memᴰ·head refl))
 
 -- a word is added to a set by adding it to the tail
 tail-adds : {x : ℕ} (y : ℕ) {s t : List ℕ} → Adds x s t → Adds x (y ∷ s) (y ∷ t)
@@ -36,45 +41,51 @@ tail-adds {x} y {s} {t} h z = (
     back (inr m) = List·Memᴰ·tail (h z .1 (inr m))
 
 -- "insert(x), which adds x to S"
-pub insert-adds : (x : ℕ) (s : List ℕ) → Adds x s (insert x s)
+pub insert-adds : (e : Entry) (s : List Entry) → Adds (e .key) (words s) (words (insert e s))
 unfolding insert
-insert-adds x [] = λ z. cons-elements
-insert-adds x (y ∷ ys) =
-    by-order (Adds x (y ∷ ys)) x y
+insert-adds e [] = λ z. cons-elements
+insert-adds e (f ∷ s) =
+    by-order (λ t. Adds (e .key) (f .key ∷ words s) (words t)) (e .key) (f .key)
     (λ less z. cons-elements)
-    (λ equal. element-adds (List·Memᴰ·head equal))
-    (λ greater. tail-adds y (insert-adds x ys))
+    (λ equal. head-adds equal)
+    (λ greater. tail-adds (f .key) (insert-adds e s))
 
 -- and leaves a set
-pub insert-increasing : (x : ℕ) {s : List ℕ} → Increasing s → Increasing (insert x s)
+pub insert-increasing : (e : Entry) (s : List Entry) → Increasing (words s) → Increasing (words (insert e s))
 unfolding insert
-insert-increasing x none-increasing = one-increasing none-above none-increasing
-insert-increasing x (one-increasing {x = y} {xs = ys} a h) =
-    by-order Increasing x y
+insert-increasing e [] none-increasing = one-increasing none-above none-increasing
+insert-increasing e (f ∷ s) (one-increasing a h) =
+    by-order (λ t. Increasing (words t)) (e .key) (f .key)
     (λ less. one-increasing (one-above less (above-smaller (le-of-lt less) a)) (one-increasing a h))
-    (λ equal. one-increasing a h)
-    (λ greater. one-increasing (above greater) (insert-increasing x h))
+    (λ equal. one-increasing (rw equal a) h)
+    (λ greater. one-increasing (above greater) (insert-increasing e s h))
   where
-    above : y < x → Above y (insert x ys)
-    above greater = less-above (insert x ys) (λ z m. ⊎-elim (λ e. rw e greater) (above-less a) (insert-adds x ys z .0 m))
+    above : f .key < e .key → Above (f .key) (words (insert e s))
+    above greater = less-above (words (insert e s)) (λ z m. ⊎-elim (λ q. rw q greater) (above-less a) (insert-adds e s z .0 m))
 
 -- "is-empty(), which returns whether S = ∅"
-pub is-empty-whether : (s : List ℕ) → Whether (s ≡ []) (is-empty s)
+pub is-empty-whether : (s : List Entry) → Whether (words s ≡ []) (is-empty s)
 unfolding is-empty
 is-empty-whether [] = (λ e. refl, λ e. refl)
-is-empty-whether (x ∷ xs) = (λ e. absurd (false≢true e), λ e. cc)
+is-empty-whether (e ∷ s) = (λ q. absurd (false≢true q), λ q. cc)
 
 -- whether one of two things holds
 whether-either : {P Q : Type 0} (b c : Bool) → Whether P b → Whether Q c → Whether (P ⊎ Q) (b || c)
 whether-either true c h k = (λ e. inl (h .0 refl), λ d. refl)
 whether-either false c h k = (λ e. inr (k .0 e), ⊎-elim (λ d. absurd (false≢true (h .1 d))) (k .1))
 
+-- the first of two is there if one of them is
+there-either : (b : Bool) (e : Entry) (q : Perhaps Entry) → isThere (first-of (if b then such e else no-such) q) ≡ (b || isThere q)
+there-either true e q = refl
+there-either false e q = refl
+
 -- "lookup(x), which returns whether x ∈ S"
-pub lookup-whether : (x : ℕ) (s : List ℕ) → Whether (x ∈ s) (lookup x s)
-unfolding lookup
+pub lookup-whether : (x : ℕ) (s : List Entry) → Whether (x ∈ words s) (isThere (lookup x s))
+unfolding lookup first-such
 lookup-whether x [] = (λ e. absurd (false≢true e), λ m. absurd (List·Memᴰ·not-nil m))
-lookup-whether x (y ∷ ys) =
-    Iff·trans (whether-either (eqb x y) (lookup x ys) (eqb-true x y, eq-eqb x y) (lookup-whether x ys)) (Iff·symm cons-elements)
+lookup-whether x (e ∷ s) =
+    rw (there-either (eqb x (e .key)) e (lookup x s))
+    (Iff·trans (whether-either (eqb x (e .key)) (isThere (lookup x s)) (eqb-true x (e .key), eq-eqb x (e .key)) (lookup-whether x s)) (Iff·symm cons-elements))
 
 -- x is removed from a set with x at its head by removing it from the tail
 head-removes : {x y : ℕ} {s t : List ℕ} → x ≡ y → Removes x s t → Removes x (y ∷ s) t
@@ -91,23 +102,24 @@ tail-removes n h z = (
 )
 
 -- "delete(x), which removes x from S"
-pub delete-removes : (x : ℕ) (s : List ℕ) → Removes x s (delete x s)
+pub delete-removes : (x : ℕ) (s : List Entry) → Removes x (words s) (words (delete x s))
 unfolding delete
 delete-removes x [] = λ z. (λ m. absurd (List·Memᴰ·not-nil m), λ k. k .0)
-delete-removes x (y ∷ ys) =
-    by-test (Removes x (y ∷ ys)) (eqb x y)
-    (λ e. head-removes (eqb-true x y e) (delete-removes x ys))
-    (λ d. tail-removes (eqb-false x y d) (delete-removes x ys))
+delete-removes x (e ∷ s) =
+    by-test (λ t. Removes x (e .key ∷ words s) (words t)) (eqb x (e .key))
+    (λ q. head-removes (eqb-true x (e .key) q) (delete-removes x s))
+    (λ d. tail-removes (eqb-false x (e .key) d) (delete-removes x s))
 
 -- and leaves a set
-pub delete-increasing : (x : ℕ) {s : List ℕ} → Increasing s → Increasing (delete x s)
+pub delete-increasing : (x : ℕ) (s : List Entry) → Increasing (words s) → Increasing (words (delete x s))
 unfolding delete
-delete-increasing x none-increasing = none-increasing
-delete-increasing x (one-increasing {x = y} {xs = ys} a h) =
-    by-test Increasing (eqb x y) (λ e. delete-increasing x h) (λ d. one-increasing above (delete-increasing x h))
+delete-increasing x [] none-increasing = none-increasing
+delete-increasing x (e ∷ s) (one-increasing a h) =
+    by-test (λ t. Increasing (words t)) (eqb x (e .key)) (λ q. delete-increasing x s h)
+    (λ d. one-increasing above (delete-increasing x s h))
   where
-    above : Above y (delete x ys)
-    above = less-above (delete x ys) (λ z m. above-less a (delete-removes x ys z .0 m .0))
+    above : Above (e .key) (words (delete x s))
+    above = less-above (words (delete x s)) (λ z m. above-less a (delete-removes x s z .0 m .0))
 
 -- the foremost of two sets, all of one before all of the other, is the first of their foremost that there is
 foremost-of-both :
@@ -147,25 +159,50 @@ last-such-greatest p (one-increasing {x} {xs} a h) =
     (λ y z m n. omega (arith, List·Memᴰ·eq-of-singleton n, above-less a m))
     (λ z. Iff·trans (append-elements (x ∷ []) xs) (⊎-swap, ⊎-swap))
 
+-- the first and the last entry whose word passes a test have the first and the last word that passes it
+first-word : (p : ℕ → Bool) (s : List Entry) → its (λ e. e .key) (first-such (λ e. p (e .key)) s) ≡ first-such p (words s)
+unfolding first-such
+first-word p [] = refl
+first-word p (e ∷ s) = either (p (e .key)) (first-word p s)
+  where
+    either : (b : Bool) → its (λ e. e .key) (first-such (λ e. p (e .key)) s) ≡ first-such p (words s)
+        → its (λ e. e .key) (first-of (if b then such e else no-such) (first-such (λ e. p (e .key)) s))
+        ≡ first-of (if b then such (e .key) else no-such) (first-such p (words s))
+    either true rest = refl
+    either false rest = rest
+
+last-word : (p : ℕ → Bool) (s : List Entry) → its (λ e. e .key) (last-such (λ e. p (e .key)) s) ≡ last-such p (words s)
+unfolding last-such
+last-word p [] = refl
+last-word p (e ∷ s) = rw (← last-word p s) (either (p (e .key)) (last-such (λ e. p (e .key)) s))
+  where
+    either : (b : Bool) (q : Perhaps Entry)
+        → its (λ e. e .key) (first-of q (if b then such e else no-such))
+        ≡ first-of (its (λ e. e .key) q) (if b then such (e .key) else no-such)
+    either true no-such = refl
+    either false no-such = refl
+    either b (such f) = refl
+
 -- "max() [..], which returns the maximum [..] element of S"
-pub max-greatest : {s : List ℕ} → Increasing s → Greatest anything s (max s)
+pub max-greatest : (s : List Entry) → Increasing (words s) → Greatest anything (words s) (wordOf (max s))
 unfolding max
-max-greatest h = last-such-greatest anything h
+max-greatest s h = rw (last-word anything s) (last-such-greatest anything h)
 
 -- "min(), which returns the [..] minimum element of S"
-pub min-least : {s : List ℕ} → Increasing s → Least anything s (min s)
+pub min-least : (s : List Entry) → Increasing (words s) → Least anything (words s) (wordOf (min s))
 unfolding min
-min-least h = first-such-least anything h
+min-least s h = rw (first-word anything s) (first-such-least anything h)
 
 -- "successor(x), which returns the smallest element of S greater than x"
-pub successor-least : (x : ℕ) {s : List ℕ} → Increasing s → Least (ltb x) s (successor x s)
+pub successor-least : (x : ℕ) (s : List Entry) → Increasing (words s) → Least (ltb x) (words s) (wordOf (successor x s))
 unfolding successor
-successor-least x h = first-such-least (ltb x) h
+successor-least x s h = rw (first-word (ltb x) s) (first-such-least (ltb x) h)
 
 -- "predecessor(x), which returns the largest element of S smaller than x"
-pub predecessor-greatest : (x : ℕ) {s : List ℕ} → Increasing s → Greatest (λ y. ltb y x) s (predecessor x s)
+pub predecessor-greatest :
+    (x : ℕ) (s : List Entry) → Increasing (words s) → Greatest (λ y. ltb y x) (words s) (wordOf (predecessor x s))
 unfolding predecessor
-predecessor-greatest x h = last-such-greatest (λ y. ltb y x) h
+predecessor-greatest x s h = rw (last-word (λ y. ltb y x) s) (last-such-greatest (λ y. ltb y x) h)
 
 -- where no two words stand before each other, one answer at most is the foremost
 foremost-unique :

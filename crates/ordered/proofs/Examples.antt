@@ -4,16 +4,24 @@ use Prim.Native.Nat.{ℕ}
 use mathlib.Core.Path.{_≡_, refl}
 use mathlib.Core.List.{List, [], _∷_}
 use Rattle.ordered.specs.Example.{Example, _is_, All-agree}
-use Rattle.ordered.specs.Such.{Perhaps, no-such, such, last-such}
+use Rattle.ordered.specs.Such.{Perhaps, no-such, such, its, last-such}
 use Rattle.ordered.specs.Word.{Side, left, right, side}
+use Rattle.ordered.specs.Dictionary.{Entry}
 use Rattle.ordered.specs.Tree.{Tree, none, row, treeOf, going}
 use Rattle.ordered.specs.Way.{Step, way, rows, joined, following, passing-equal, pushing, down, staying}
-use Rattle.ordered.specs.Reading.{Reading, rowsOf, has, next, prev, first, last, gap}
+use Rattle.ordered.specs.Reading.{Found, Reading, wordIn, rowsOf, has, next, prev, first, last, gap}
 use Rattle.ordered.specs.Grown.{grown, shrunk, pushed-tree, popped-tree, linked, shifted, lifted}
 use Rattle.ordered.specs.Change.{Take, Adding, Erasing, adding, erasing, pushed, left-over, raised}
 
+abbrev entry : ℕ → Entry
+entry k = record { key = k }
+
+abbrev set : List ℕ → List Entry
+set [] = []
+set (k ∷ ks) = entry k ∷ set ks
+
 abbrev word : ℕ → ℕ → Tree → Tree → Tree
-word i k l r = row i (record { key = k }) l r
+word i k l r = row i (entry k) l r
 
 abbrev leaf : ℕ → ℕ → Tree
 leaf i k = word i k none none
@@ -27,37 +35,45 @@ B = word 0 0 (word 0 1 none (word 0 2 none (leaf 0 3))) (leaf 0 4)
 
 abbrev trees : List (Example Tree)
 trees =
-    treeOf 4 (4 ∷ 8 ∷ 11 ∷ 15 ∷ []) is A
-    ∷ treeOf 3 (0 ∷ 1 ∷ 2 ∷ 3 ∷ 4 ∷ []) is B
-    ∷ treeOf 1 (0 ∷ 1 ∷ []) is word 0 0 none (leaf 0 1)
+    treeOf 4 (set (4 ∷ 8 ∷ 11 ∷ 15 ∷ [])) is A
+    ∷ treeOf 3 (set (0 ∷ 1 ∷ 2 ∷ 3 ∷ 4 ∷ [])) is B
+    ∷ treeOf 1 (set (0 ∷ 1 ∷ [])) is word 0 0 none (leaf 0 1)
     ∷ []
 
 trees-agree : All-agree trees
 unfolding treeOf going side
 trees-agree = refl
 
--- a reading in short: its rows and its answer
-abbrev short : Reading → ℕ × Perhaps ℕ
+-- a reading in short: its rows, and the word that it finds with the bits left at its row, or the distance
+abbrev short : {A : Type 0} → Reading A → ℕ × Perhaps A
 short r = (rowsOf (r .ways), r .answer)
 
-abbrev readings : List (Example (ℕ × Perhaps ℕ))
+abbrev at : ℕ → ℕ → Perhaps Found
+at k bits = such (record { entry = entry k; bits = bits })
+
+abbrev readings : List (Example (ℕ × Perhaps Found))
 readings =
-    short (has 4 11 A) is (3, such 11)
+    short (has 4 11 A) is (3, at 11 2)
     ∷ short (has 4 9 A) is (3, no-such)
     ∷ short (prev 4 4 A) is (1, no-such)
-    ∷ short (prev 4 9 A) is (3, such 8)
-    ∷ short (next 4 9 A) is (3, such 11)
+    ∷ short (prev 4 9 A) is (3, at 8 3)
+    ∷ short (next 4 9 A) is (3, at 11 2)
     ∷ short (next 4 15 A) is (3, no-such)
-    ∷ short (gap 4 9 A) is (6, such 1)
-    ∷ short (gap 4 0 A) is (2, such 4)
-    ∷ short (prev 3 4 B) is (5, such 3)
-    ∷ short (next 3 3 B) is (5, such 4)
-    ∷ short (first 3 B) is (1, such 0)
-    ∷ short (last 3 B) is (2, such 4)
+    ∷ short (prev 3 4 B) is (5, at 3 0)
+    ∷ short (next 3 3 B) is (5, at 4 2)
+    ∷ short (first 3 B) is (1, at 0 3)
+    ∷ short (last 3 B) is (2, at 4 2)
     ∷ []
 
+abbrev gaps : List (Example (ℕ × Perhaps ℕ))
+gaps = short (gap 4 9 A) is (6, such 1) ∷ short (gap 4 0 A) is (2, such 4) ∷ []
+
+gaps-agree : All-agree gaps
+unfolding rowsOf has next prev gap way rows following passing-equal down staying last-such side
+gaps-agree = refl
+
 readings-agree : All-agree readings
-unfolding rowsOf has next prev first last gap way rows following passing-equal down staying last-such side
+unfolding rowsOf has next prev first last way rows following passing-equal down staying last-such side
 readings-agree = refl
 
 -- the tree of A as the line program's example numbers its rows
@@ -95,11 +111,11 @@ adding-short a = (rows (a .rows-read), taken (a .takes), a .new-entry .key, hook
 
 abbrev adds : List (Example (ℕ × List (ℕ × ℕ) × ℕ × Perhaps (ℕ × Side)))
 adds =
-    adding-short (adding 4 4 (leaf 0 8)) is (1, (0, 4) ∷ [], 8, such (0, right))
-    ∷ adding-short (adding 4 12 A-numbered) is (3, (3, 12) ∷ [], 15, such (3, right))
-    ∷ adding-short (adding 4 0 A-numbered) is (1, (0, 0) ∷ [], 4, such (0, left))
-    ∷ adding-short (adding 4 9 A-numbered) is (3, (2, 9) ∷ [], 11, such (2, right))
-    ∷ adding-short (adding 4 7 none) is (0, [], 7, no-such)
+    adding-short (adding 4 (entry 4) (leaf 0 8)) is (1, (0, 4) ∷ [], 8, such (0, right))
+    ∷ adding-short (adding 4 (entry 12) A-numbered) is (3, (3, 12) ∷ [], 15, such (3, right))
+    ∷ adding-short (adding 4 (entry 0) A-numbered) is (1, (0, 0) ∷ [], 4, such (0, left))
+    ∷ adding-short (adding 4 (entry 9) A-numbered) is (3, (2, 9) ∷ [], 11, such (2, right))
+    ∷ adding-short (adding 4 (entry 7) none) is (0, [], 7, no-such)
     ∷ []
 
 adds-agree : All-agree adds
@@ -109,10 +125,10 @@ adds-agree = refl
 -- the trees that are left, with their row numbers; the new row is row 4
 abbrev left-trees : List (Example Tree)
 left-trees =
-    grown 4 4 12 A-numbered is word 0 4 none (word 1 8 (leaf 2 11) (word 3 12 none (leaf 4 15)))
-    ∷ grown 4 4 0 A-numbered is word 0 0 (leaf 4 4) (word 1 8 (leaf 2 11) (leaf 3 15))
-    ∷ grown 4 4 9 A-numbered is word 0 4 none (word 1 8 (word 2 9 none (leaf 4 11)) (leaf 3 15))
-    ∷ grown 4 4 11 A-numbered is A-numbered
+    grown 4 4 (entry 12) A-numbered is word 0 4 none (word 1 8 (leaf 2 11) (word 3 12 none (leaf 4 15)))
+    ∷ grown 4 4 (entry 0) A-numbered is word 0 0 (leaf 4 4) (word 1 8 (leaf 2 11) (leaf 3 15))
+    ∷ grown 4 4 (entry 9) A-numbered is word 0 4 none (word 1 8 (word 2 9 none (leaf 4 11)) (leaf 3 15))
+    ∷ grown 4 4 (entry 11) A-numbered is A-numbered
     ∷ shrunk 4 8 A-numbered is word 0 4 none (word 1 11 none (leaf 3 15))
     ∷ shrunk 4 4 A-numbered is word 0 8 none (word 1 11 none (leaf 3 15))
     ∷ shrunk 4 9 A-numbered is A-numbered

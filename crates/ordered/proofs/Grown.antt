@@ -2,25 +2,25 @@
 use Prim.Native.Nat.{ℕ, suc, _+_, _*_, _/_, _^_, _≤_, _<_}
 use mathlib.Core.Path.{_≡_, refl, sym, ap, _∙_}
 use mathlib.Core.Bool.{Bool, true, false}
-use mathlib.Core.List.{List, _++_}
+use mathlib.Core.List.{List, _∷_, _++_}
 use native.Mathlib.Omega.{arith}
 use lib.Dec.{ltb, eqb}
 use borrow.Author.Tests.{ltb-true, ltb-false, eqb-true, eqb-false, le-ltb, eq-eqb, ne-eqb}
-use Rattle.ordered.specs.Such.{if_then_else_, no-such, such, only-if}
+use Rattle.ordered.specs.Such.{if_then_else_, isThere, no-such, such, only-if}
 use Rattle.ordered.specs.Word.{bitOf, side, other}
-use Rattle.ordered.specs.Dictionary.{insert, delete}
-use Rattle.ordered.specs.Tree.{Tree, row, Entry, part, exists, listing, unnumbered, treeOf}
+use Rattle.ordered.specs.Dictionary.{Entry, insert, delete}
+use Rattle.ordered.specs.Tree.{Tree, row, part, exists, entries, unnumbered, treeOf}
 use Rattle.ordered.specs.Proper.{Fitting, Proper}
 use Rattle.ordered.specs.Way.{Way, way, following}
-use Rattle.ordered.specs.Reading.{keyAt}
-use Rattle.ordered.specs.Change.{isThere, entryAt}
+use Rattle.ordered.specs.Reading.{Found, wordIn, root-row}
+use Rattle.ordered.specs.Change.{entryAt}
 use Rattle.ordered.specs.Grown.{linked, pushed-tree, popped-tree, grown, shrunk}
 use Rattle.ordered.proofs.Bits.{to-part}
-use Rattle.ordered.proofs.Parts.{All, none-all, one-all, all-map, above-all, insert-before, insert-between, delete-absent, delete-between}
+use Rattle.ordered.proofs.Parts.{All, AllWords, none-all, one-all, all-map, above-all, insert-before, insert-between, delete-absent, delete-between}
 use Rattle.ordered.proofs.OneTree.{keys-fit, one-tree}
-use Rattle.ordered.proofs.Ways.{At-end, Onward, along, lower, upper, linked-listing, parted, turns-so, following-seeks}
+use Rattle.ordered.proofs.Ways.{At-end, Onward, along, lower, upper, linked-entries, parted, turns-so, following-seeks}
 use Rattle.ordered.proofs.Sought.{Ends, at-no-row, at-last-bit, at-key, Sought, way-of}
-use Rattle.ordered.proofs.Moves.{linking-proper, proper-from, proper-lower, push-proper, push-listing, pop-proper, pop-listing}
+use Rattle.ordered.proofs.Moves.{linking-proper, proper-from, proper-lower, push-proper, push-entries, pop-proper, pop-entries}
 
 -- the way of k in a proper tree into which k fits: where it ends k fits too, and what is proper there is proper in the whole, linked by
 -- the rows of the way
@@ -62,18 +62,19 @@ data Present (k : ℕ) : Tree → Type 0 where
   present : {i : ℕ} {e : Entry} {l r : Tree} → e .key ≡ k → Present k (row i e l r)
 
 -- it is, or all that is listed there is greater
-meeting : (k : ℕ) {u : Tree} → Ends (λ x. ltb x k) k u → (P : Bool → Type 0)
-    → (Present k u → P true) → (All (λ x. k < x) (listing u) → P false) → P (isThere (only-if (eqb k) (keyAt u)))
-unfolding listing
-meeting k at-no-row P here beyond = beyond none-all
-meeting k (at-last-bit {e} same) P here beyond = rw (eq-eqb k (e .key) (sym same)) (here (present same))
-meeting k (at-key {i} {e} {l} {r} stops above) P here beyond = either (eqb k (e .key)) refl
+meeting : (bits k : ℕ) {u : Tree} → Ends (λ x. ltb x k) k u → (P : Bool → Type 0)
+    → (Present k u → P true) → (AllWords (λ x. k < x) (entries u) → P false)
+    → P (isThere (only-if (λ f. eqb k (wordIn f)) (root-row bits u)))
+unfolding entries
+meeting bits k at-no-row P here beyond = beyond none-all
+meeting bits k (at-last-bit {e} same) P here beyond = rw (eq-eqb k (e .key) (sym same)) (here (present same))
+meeting bits k (at-key {i} {e} {l} {r} stops above) P here beyond = either (eqb k (e .key)) refl
   where
-    either : (b : Bool) → eqb k (e .key) ≡ b → P (isThere (if b then such (e .key) else no-such))
+    either : (b : Bool) → eqb k (e .key) ≡ b → P (isThere {A = Found} (if b then such (record { entry = e; bits = bits }) else no-such))
     either true same = here (present (sym (eqb-true k (e .key) same)))
     either false differs =
         let less : k < e .key = omega (arith, eqb-false k (e .key) differs, ltb-false (e .key) k stops) in
-        beyond (one-all less (all-map (λ x above. omega arith) (above-all above)))
+        beyond (one-all less (all-map (λ x above. omega arith) (above-all (entries l ++ entries r) above)))
 
 there : (k : ℕ) {u : Tree} → Present k u → exists u ≡ true
 there k (present same) = refl
@@ -81,9 +82,15 @@ there k (present same) = refl
 own-key : (k : ℕ) {u : Tree} → Present k u → entryAt u .key ≡ k
 own-key k (present same) = same
 
-insert-present : (k : ℕ) {u : Tree} → Present k u → insert k (listing u) ≡ listing u
-unfolding insert listing
-insert-present k (present {e} same) = rw (le-ltb k (e .key) (omega arith), eq-eqb k (e .key) (sym same))
+-- an entry is its key
+same-entry : {e f : Entry} → e .key ≡ f .key → e ≡ f
+same-entry same = ap (λ k. record { key = k }) same
+
+insert-present : (o : Entry) {u : Tree} → Present (o .key) u → insert o (entries u) ≡ entries u
+unfolding insert entries
+insert-present o (present {e} {l} {r} same) =
+    rw (le-ltb (o .key) (e .key) (omega arith), eq-eqb (o .key) (e .key) (sym same))
+    (ap (λ e. e ∷ (entries l ++ entries r)) (same-entry (sym same)))
 
 module _ (m k path low : ℕ) (t : Tree) (fits : Fitting m path low k) (h : Proper m path low t) where
   abbrev the-way : Way
@@ -103,61 +110,23 @@ module _ (m k path low : ℕ) (t : Tree) (fits : Fitting m path low k) (h : Prop
   open-there = opened k m t path low fits h
 
   -- the tree with another part at the end of the way
-  abbrev around : List ℕ → List ℕ
+  abbrev around : List Entry → List Entry
   around xs = lower (the-way .passed) ++ (xs ++ upper (the-way .passed))
 
-  lists-around : (u : Tree) {xs : List ℕ} → listing u ≡ xs → listing (linked (the-way .passed) u) ≡ around xs
-  lists-around u same = linked-listing (the-way .passed) u ∙ ap around same
+  lists-around : (u : Tree) {xs : List Entry} → entries u ≡ xs → entries (linked (the-way .passed) u) ≡ around xs
+  lists-around u same = linked-entries (the-way .passed) u ∙ ap around same
 
-  lists-itself : {xs : List ℕ} → listing old-part ≡ xs → listing t ≡ around xs
+  lists-itself : {xs : List Entry} → entries old-part ≡ xs → entries t ≡ around xs
   lists-itself same = parted (following k) m t ∙ ap around same
 
-  inserted : insert k (listing t) ≡ around (insert k (listing old-part))
-  inserted =
-      ap (insert k) (parted (following k) m t)
-      ∙ insert-between k (lower (the-way .passed)) (listing old-part) (upper (the-way .passed))
-      (all-map (λ x. ltb-true x k) (found .left-passes)) (found .right-above)
-
-  deleted : delete k (listing t) ≡ around (delete k (listing old-part))
+  deleted : delete k (entries t) ≡ around (delete k (entries old-part))
   deleted =
       ap (delete k) (parted (following k) m t)
-      ∙ delete-between k (lower (the-way .passed)) (listing old-part) (upper (the-way .passed))
-      (all-map (λ x less. ne-eqb k x (λ same. omega (arith, ltb-true x k less))) (found .left-passes))
-      (all-map (λ x less. ne-eqb k x (λ same. omega arith)) (found .right-above))
+      ∙ delete-between k (lower (the-way .passed)) (entries old-part) (upper (the-way .passed))
+      (all-map (λ x less. ne-eqb k (x .key) (λ same. omega (arith, ltb-true (x .key) k less))) (found .left-passes))
+      (all-map (λ x less. ne-eqb k (x .key) (λ same. omega arith)) (found .right-above))
 
-  -- `add`: where k is not at the end of its way, it is pushed there before all that is listed
-  module _ (n : ℕ) where
-    abbrev new-part : Tree
-    new-part = pushed-tree n bits (record { key = k }) old-part
-
-    raised-part : All (λ x. k < x) (listing old-part) → Proper bits (k / 2 ^ bits) (suc k) old-part
-    raised-part beyond = proper-from bits (k / 2 ^ bits) (open-there .end-low) (suc k) old-part (open-there .end-proper) beyond
-
-    pub grown-proper : Proper m path low (grown n m k t)
-    unfolding grown
-    grown-proper =
-        meeting k (found .ends) (λ b. Proper m path low (if b then t else linked (the-way .passed) new-part)) (λ is-there. h)
-        (λ beyond.
-        open-there .links new-part
-        (proper-lower bits (k / 2 ^ bits) k (open-there .end-low) new-part (open-there .end-from)
-        (push-proper n bits (k / 2 ^ bits) (record { key = k }) old-part refl (raised-part beyond))))
-
-    pub grown-listing : listing (grown n m k t) ≡ insert k (listing t)
-    unfolding grown
-    grown-listing =
-        meeting k (found .ends) (λ b. listing (if b then t else linked (the-way .passed) new-part) ≡ insert k (listing t))
-        (λ is-there. lists-itself (sym (insert-present k is-there)) ∙ sym inserted)
-        (λ beyond.
-        lists-around new-part
-        (push-listing n bits (k / 2 ^ bits) (record { key = k }) old-part refl (raised-part beyond)
-        ∙ sym (insert-before k (listing old-part) beyond))
-        ∙ sym inserted)
-
-    -- so row numbers apart it is the PreTree of the dictionary's next set
-    pub grown-tree : unnumbered (grown n m k t) ≡ treeOf m (insert k (listing t))
-    grown-tree = one-tree m path low (grown n m k t) grown-proper ∙ ap (treeOf m) grown-listing
-
-  -- `del`: where k is at the end of its way, the first word listed there is taken away
+  -- `del`: where k is at the end of its way, the first entry there is taken away
   abbrev rest-part : Tree
   rest-part = popped-tree bits old-part
 
@@ -165,16 +134,16 @@ module _ (m k path low : ℕ) (t : Tree) (fits : Fitting m path low k) (h : Prop
   rest-proper is-there =
       rw (own-key k is-there) at (pop-proper bits (k / 2 ^ bits) (open-there .end-low) old-part (open-there .end-proper) (there k is-there))
 
-  rest-listing : Present k old-part → listing rest-part ≡ delete k (listing old-part)
+  rest-entries : Present k old-part → entries rest-part ≡ delete k (entries old-part)
   unfolding delete
-  rest-listing is-there =
-      let above : All (Fitting bits (k / 2 ^ bits) (suc k)) (listing rest-part) =
+  rest-entries is-there =
+      let above : AllWords (Fitting bits (k / 2 ^ bits) (suc k)) (entries rest-part) =
       keys-fit bits (k / 2 ^ bits) (suc k) rest-part (rest-proper is-there) in
-      let absent : delete k (listing rest-part) ≡ listing rest-part =
-      delete-absent k (listing rest-part)
-      (all-map (λ x f. ne-eqb k x (λ same. omega (arith, f .not-below))) above) in
+      let absent : delete k (entries rest-part) ≡ entries rest-part =
+      delete-absent k (entries rest-part)
+      (all-map (λ x f. ne-eqb k (x .key) (λ same. omega (arith, f .not-below))) above) in
       rw (
-        ← pop-listing bits (k / 2 ^ bits) (open-there .end-low) old-part (open-there .end-proper) (there k is-there),
+        ← pop-entries bits (k / 2 ^ bits) (open-there .end-low) old-part (open-there .end-proper) (there k is-there),
         eq-eqb k (entryAt old-part .key) (sym (own-key k is-there)),
       )
       (sym absent)
@@ -182,20 +151,80 @@ module _ (m k path low : ℕ) (t : Tree) (fits : Fitting m path low k) (h : Prop
   pub shrunk-proper : Proper m path low (shrunk m k t)
   unfolding shrunk
   shrunk-proper =
-      meeting k (found .ends) (λ b. Proper m path low (if b then linked (the-way .passed) rest-part else t))
+      meeting bits k (found .ends) (λ b. Proper m path low (if b then linked (the-way .passed) rest-part else t))
       (λ is-there.
       open-there .links rest-part
       (proper-lower bits (k / 2 ^ bits) (suc k) (open-there .end-low) rest-part (omega (arith, open-there .end-from))
       (rest-proper is-there)))
       (λ beyond. h)
 
-  pub shrunk-listing : listing (shrunk m k t) ≡ delete k (listing t)
+  pub shrunk-entries : entries (shrunk m k t) ≡ delete k (entries t)
   unfolding shrunk
-  shrunk-listing =
-      meeting k (found .ends) (λ b. listing (if b then linked (the-way .passed) rest-part else t) ≡ delete k (listing t))
-      (λ is-there. lists-around rest-part (rest-listing is-there) ∙ sym deleted)
+  shrunk-entries =
+      meeting bits k (found .ends) (λ b. entries (if b then linked (the-way .passed) rest-part else t) ≡ delete k (entries t))
+      (λ is-there. lists-around rest-part (rest-entries is-there) ∙ sym deleted)
       (λ beyond.
-      lists-itself (sym (delete-absent k (listing old-part) (all-map (λ x less. ne-eqb k x (λ same. omega arith)) beyond))) ∙ sym deleted)
+      lists-itself (sym (delete-absent k (entries old-part) (all-map (λ x less. ne-eqb k (x .key) (λ same. omega arith)) beyond))) ∙ sym deleted)
 
-  pub shrunk-tree : unnumbered (shrunk m k t) ≡ treeOf m (delete k (listing t))
-  shrunk-tree = one-tree m path low (shrunk m k t) shrunk-proper ∙ ap (treeOf m) shrunk-listing
+  pub shrunk-tree : unnumbered (shrunk m k t) ≡ treeOf m (delete k (entries t))
+  shrunk-tree = one-tree m path low (shrunk m k t) shrunk-proper ∙ ap (treeOf m) shrunk-entries
+
+-- `add`: where the word of e is not at the end of its way, e is pushed there before all other entries
+module _ (m path low n : ℕ) (e : Entry) (t : Tree) (fits : Fitting m path low (e .key)) (h : Proper m path low t) where
+  abbrev k : ℕ
+  k = e .key
+
+  abbrev left-of-way : List Entry
+  left-of-way = lower (the-way m k path low t fits h .passed)
+
+  abbrev right-of-way : List Entry
+  right-of-way = upper (the-way m k path low t fits h .passed)
+
+  abbrev left-bits : ℕ
+  left-bits = bits m k path low t fits h
+
+  abbrev old : Tree
+  old = old-part m k path low t fits h
+
+  abbrev new-part : Tree
+  new-part = pushed-tree n left-bits e old
+
+  opens : Opened k m path low (the-way m k path low t fits h)
+  opens = open-there m k path low t fits h
+
+  finds : Sought (λ x. ltb x k) k (the-way m k path low t fits h)
+  finds = found m k path low t fits h
+
+  inserted : insert e (entries t) ≡ around m k path low t fits h (insert e (entries old))
+  inserted =
+      ap (insert e) (parted (following k) m t)
+      ∙ insert-between e left-of-way (entries old) right-of-way
+      (all-map (λ x. ltb-true (x .key) k) (finds .left-passes)) (finds .right-above)
+
+  raised-part : AllWords (λ x. k < x) (entries old) → Proper left-bits (k / 2 ^ left-bits) (suc k) old
+  raised-part beyond = proper-from left-bits (k / 2 ^ left-bits) (opens .end-low) (suc k) old (opens .end-proper) beyond
+
+  pub grown-proper : Proper m path low (grown n m e t)
+  unfolding grown
+  grown-proper =
+      meeting left-bits k (finds .ends)
+      (λ b. Proper m path low (if b then t else linked (the-way m k path low t fits h .passed) new-part)) (λ is-there. h)
+      (λ beyond.
+      opens .links new-part
+      (proper-lower left-bits (k / 2 ^ left-bits) k (opens .end-low) new-part (opens .end-from)
+      (push-proper n left-bits (k / 2 ^ left-bits) e old refl (raised-part beyond))))
+
+  pub grown-entries : entries (grown n m e t) ≡ insert e (entries t)
+  unfolding grown
+  grown-entries =
+      meeting left-bits k (finds .ends)
+      (λ b. entries (if b then t else linked (the-way m k path low t fits h .passed) new-part) ≡ insert e (entries t))
+      (λ is-there. lists-itself m k path low t fits h (sym (insert-present e is-there)) ∙ sym inserted)
+      (λ beyond.
+      lists-around m k path low t fits h new-part
+      (push-entries n left-bits (k / 2 ^ left-bits) e old refl (raised-part beyond) ∙ sym (insert-before e (entries old) beyond))
+      ∙ sym inserted)
+
+  -- so row numbers apart it is the PreTree of the dictionary's next set
+  pub grown-tree : unnumbered (grown n m e t) ≡ treeOf m (insert e (entries t))
+  grown-tree = one-tree m path low (grown n m e t) grown-proper ∙ ap (treeOf m) grown-entries

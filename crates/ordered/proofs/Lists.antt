@@ -1,8 +1,8 @@
--- Laws of tests, of the elements of lists, of increasing lists, and of what is sought in a list: for all that speaks of sets.
+-- Laws of tests, of the elements of lists, and of increasing lists: for all that speaks of sets.
 use Prim.Native.Nat.{ℕ, _≤_, _<_}
 use mathlib.Core.Path.{_≡_, refl}
 use mathlib.Core.Logic.{_↔_, _⊎_, ⊎-elim}
-use mathlib.Core.Bool.{Bool, true, false, _||_, or-assoc}
+use mathlib.Core.Bool.{Bool, true, false}
 use mathlib.Core.List.{List, [], _∷_, _++_}
 use mathlib.Core.List.{List·Memᴰ·head, List·Memᴰ·tail, List·Memᴰ·cases-cons, List·Memᴰ·not-nil}
 use mathlib.Core.List.{Memᴰ·append-left, Memᴰ·append-right, List·Memᴰ·append-cases}
@@ -10,8 +10,8 @@ use native.Mathlib.Nat.{le-of-lt, lt-of-le-of-lt}
 use native.Mathlib.Omega.{arith}
 use lib.Dec.{ltb, eqb}
 use borrow.Author.Tests.{ltb-true, ltb-false, eqb-true, eqb-false}
-use Rattle.ordered.specs.Such.{if_then_else_, Perhaps, no-such, such, first-of, first-such, last-such}
-use Rattle.ordered.specs.Dictionary.{Above, none-above, one-above, Increasing, none-increasing, one-increasing, lookup}
+use Rattle.ordered.specs.Such.{if_then_else_}
+use Rattle.ordered.specs.Dictionary.{Above, none-above, one-above, Increasing, none-increasing, one-increasing}
 use Rattle.ordered.specs.Said.{_∈_}
 
 module _ {A : Type 0} (P : A → Type 0) where
@@ -20,7 +20,7 @@ module _ {A : Type 0} (P : A → Type 0) where
   by-test true passed failed = passed refl
   by-test false passed failed = failed refl
 
-  -- the same where x is compared with y
+  -- likewise where x is compared with y
   pub by-order :
       (x y : ℕ) {a b c : A} → (x < y → P a) → (x ≡ y → P b) → (y < x → P c)
       → P (if ltb x y then a else if eqb x y then b else c)
@@ -76,30 +76,3 @@ increasing-parts (x ∷ xs) t (one-increasing a h) =
       parts .1,
       λ y z m n. ⊎-elim (λ e. rw e (below z n)) (λ k. parts .2 y z k n) (List·Memᴰ·cases-cons m),
     )
-
--- a word is looked up in two lists joined by looking it up in both
-pub lookup-append : (x : ℕ) (s t : List ℕ) → lookup x (s ++ t) ≡ (lookup x s || lookup x t)
-unfolding lookup
-lookup-append x [] t = refl
-lookup-append x (y ∷ ys) t = rw (lookup-append x ys t, or-assoc)
-
-module _ {A : Type 0} where
-  first-of-assoc : (a b c : Perhaps A) → first-of (first-of a b) c ≡ first-of a (first-of b c)
-  first-of-assoc (such x) b c = refl
-  first-of-assoc no-such b c = refl
-
-  first-of-no-such : (a : Perhaps A) → first-of a no-such ≡ a
-  first-of-no-such (such x) = refl
-  first-of-no-such no-such = refl
-
-  -- the first that passes the test in two lists joined is sought in the first list, then in the second
-  pub first-such-append : (p : A → Bool) (s t : List A) → first-such p (s ++ t) ≡ first-of (first-such p s) (first-such p t)
-  unfolding first-such
-  first-such-append p [] t = refl
-  first-such-append p (x ∷ xs) t = rw (first-such-append p xs t, first-of-assoc)
-
-  -- the last one in the second list, then in the first
-  pub last-such-append : (p : A → Bool) (s t : List A) → last-such p (s ++ t) ≡ first-of (last-such p t) (last-such p s)
-  unfolding last-such
-  last-such-append p [] t = rw first-of-no-such
-  last-such-append p (x ∷ xs) t = rw (last-such-append p xs t, first-of-assoc)

@@ -1,5 +1,4 @@
--- Push and pop: what a push and an erase leave of a proper part is proper, and lists one word more before the others, or the first word
--- less.
+-- Push and pop: what a push and an erase leave of a proper part is proper, and has one entry more before the others, or lacks the first.
 use Prim.Native.Nat.{ℕ, zero, suc, _+_, _*_, _/_, _^_, _≤_, _<_}
 use mathlib.Core.Path.{_≡_, refl, ap}
 use mathlib.Core.Bool.{Bool, true, false}
@@ -8,13 +7,14 @@ use native.Mathlib.Nat.{le-refl}
 use native.Mathlib.Omega.{arith}
 use Rattle.ordered.specs.Such.{if_then_else_}
 use Rattle.ordered.specs.Word.{Side, left, right, bitOf, side, other}
-use Rattle.ordered.specs.Tree.{Tree, none, row, damaged, Entry, part, exists, listing}
+use Rattle.ordered.specs.Dictionary.{Entry}
+use Rattle.ordered.specs.Tree.{Tree, none, row, damaged, part, exists, entries}
 use Rattle.ordered.specs.Proper.{Fitting, Proper}
 use Rattle.ordered.specs.Way.{Step, Way, Rule, stop, to, way, pushing, down}
 use Rattle.ordered.specs.Change.{Take, pushed, raised, left-over, entryAt}
 use Rattle.ordered.specs.Grown.{linking, linked, shifted, entry-below, lifted, pushed-tree, popped-tree}
 use Rattle.ordered.proofs.Bits.{to-part, from-part, left-below-right, whole-path}
-use Rattle.ordered.proofs.Parts.{All, none-all, one-all, all-map}
+use Rattle.ordered.proofs.Parts.{All, AllWords, none-all, one-all, all-map}
 use Rattle.ordered.proofs.OneTree.{by-rows, keys-fit}
 use Rattle.ordered.proofs.Ways.{at-bottom, at-none, at-damage, at-stop, At-end, Onward, along}
 
@@ -41,14 +41,15 @@ linking-proper m path low i e left l r t fits beside h = record { key-fits = fit
 linking-proper m path low i e right l r t fits beside h = record { key-fits = fits; parts = elim [ left ↦ beside | right ↦ h ] }
 
 -- the least key may be any that is no greater than the keys
-pub proper-from : (m path low low′ : ℕ) (t : Tree) → Proper m path low t → All (λ x. low′ ≤ x) (listing t) → Proper m path low′ t
-unfolding Proper listing
+pub proper-from : (m path low low′ : ℕ) (t : Tree) → Proper m path low t → AllWords (λ x. low′ ≤ x) (entries t) → Proper m path low′ t
+unfolding Proper entries
 proper-from m path low low′ t h from =
-    by-rows (λ m path low t. All (λ x. low′ ≤ x) (listing t) → Proper m path low′ t) (λ m path low from. proper-none m path low′)
+    by-rows (λ m path low t. AllWords (λ x. low′ ≤ x) (entries t) → Proper m path low′ t) (λ m path low from. proper-none m path low′)
     (λ path low i e fits from. proper-leaf zero path low′ i e (still fits from))
     (λ m path low i e l r fits parts below from. record { key-fits = still fits from; parts = parts }) m path low t h from
   where
-    still : {m path low x : ℕ} {xs : List ℕ} → Fitting m path low x → All (λ x. low′ ≤ x) (x ∷ xs) → Fitting m path low′ x
+    still : {m path low : ℕ} {e : Entry} {es : List Entry} → Fitting m path low (e .key) → AllWords (λ x. low′ ≤ x) (e ∷ es)
+        → Fitting m path low′ (e .key)
     still fits (one-all from rest) = record { not-below = from; on-path = fits .on-path }
 
 pub proper-lower : (m path low low′ : ℕ) (t : Tree) → low′ ≤ low → Proper m path low t → Proper m path low′ t
@@ -56,20 +57,20 @@ proper-lower m path low low′ t less h =
     proper-from m path low low′ t h (all-map (λ x f. omega (arith, f .not-below)) (keys-fit m path low t h))
 
 -- nothing in a left part is greater than a word that goes right
-none-left : (m path k : ℕ) {xs : List ℕ} → k / 2 ^ m ≡ path * 2 + bitOf right
-    → All (Fitting m (path * 2 + bitOf left) (suc k)) xs → xs ≡ []
+none-left : (m path k : ℕ) {xs : List Entry} → k / 2 ^ m ≡ path * 2 + bitOf right
+    → AllWords (Fitting m (path * 2 + bitOf left) (suc k)) xs → xs ≡ []
 none-left m path k on none-all = refl
-none-left m path k on (one-all {x} f fs) = absurd (omega (arith, f .not-below, left-below-right m path x k (f .on-path) on))
+none-left m path k on (one-all {x} f fs) = absurd (omega (arith, f .not-below, left-below-right m path (x .key) k (f .on-path) on))
 
 -- a push of an entry whose key is below all those of a part puts it before them
 Pushed : (n m : ℕ) → Tree → Way → Type 0
 Pushed n m t w =
     (e : Entry) (path : ℕ) → e .key / 2 ^ m ≡ path → Proper m path (suc (e .key)) t
     → let g : Tree = linked (shifted e (w .passed)) (row n (left-over e (w .passed)) none none) in
-    Proper m path (e .key) g × (listing g ≡ e .key ∷ listing t)
+    Proper m path (e .key) g × (entries g ≡ e ∷ entries t)
 
 push-ends : (n : ℕ) → At-end pushing (Pushed n)
-unfolding Pushed Proper pushing listing linked shifted left-over
+unfolding Pushed Proper pushing entries linked shifted left-over
 push-ends n zero none at-bottom e path on h =
     (proper-leaf zero path (e .key) n e (record { not-below = le-refl (e .key); on-path = on }), refl)
 push-ends n zero (row i o l r) at-bottom e path on h =
@@ -81,21 +82,21 @@ push-ends n (suc m) damaged at-damage e path on h = absurd h
 push-ends n (suc m) (row i o l r) (at-stop says) e path on h = let never : _≡_ {A = ℕ} 0 1 = cc in absurd (omega arith)
 
 push-lists : (m path i : ℕ) (o e : Entry) (s : Side) (l r g : Tree) → o .key / 2 ^ m ≡ path * 2 + bitOf s
-    → Proper m (path * 2 + bitOf left) (suc (o .key)) l → listing g ≡ o .key ∷ listing (part s l r)
-    → listing (linking i e s l r g) ≡ e .key ∷ o .key ∷ (listing l ++ listing r)
-unfolding listing
-push-lists m path i o e left l r g on h rest = ap (λ xs. e .key ∷ (xs ++ listing r)) rest
+    → Proper m (path * 2 + bitOf left) (suc (o .key)) l → entries g ≡ o ∷ entries (part s l r)
+    → entries (linking i e s l r g) ≡ e ∷ o ∷ (entries l ++ entries r)
+unfolding entries
+push-lists m path i o e left l r g on h rest = ap (λ xs. e ∷ (xs ++ entries r)) rest
 push-lists m path i o e right l r g on h rest =
     rw (rest, none-left m path (o .key) on (keys-fit m (path * 2 + bitOf left) (suc (o .key)) l h))
 
 push-goes : (n : ℕ) → Onward pushing (Pushed n)
-unfolding Pushed Proper pushing listing linked shifted left-over
+unfolding Pushed Proper pushing entries linked shifted left-over
 push-goes n m i o l r s says rest e path on h =
     let turn : side m (o .key) ≡ s = cc in
     let w : Way = way pushing m (part s l r) in
     let g : Tree = linked (shifted o (w .passed)) (row n (left-over o (w .passed)) none none) in
     let on-side : o .key / 2 ^ m ≡ path * 2 + bitOf s = to-part m (o .key) path s (h .key-fits .on-path) turn in
-    let below : Proper m (path * 2 + bitOf s) (o .key) g × (listing g ≡ o .key ∷ listing (part s l r)) =
+    let below : Proper m (path * 2 + bitOf s) (o .key) g × (entries g ≡ o ∷ entries (part s l r)) =
     rest o (path * 2 + bitOf s) on-side (h .parts s) in
     let less : e .key < o .key = h .key-fits .not-below in
     let beside : Proper m (path * 2 + bitOf (other s)) (suc (e .key)) (part (other s) l r) =
@@ -114,9 +115,9 @@ module _ (n m path : ℕ) (e : Entry) (t : Tree) (on : e .key / 2 ^ m ≡ path) 
   unfolding pushed-tree Pushed
   push-proper = push-way n m t e path on h .0
 
-  pub push-listing : listing (pushed-tree n m e t) ≡ e .key ∷ listing t
+  pub push-entries : entries (pushed-tree n m e t) ≡ e ∷ entries t
   unfolding pushed-tree Pushed
-  push-listing = push-way n m t e path on h .1
+  push-entries = push-way n m t e path on h .1
 
 -- the entry that a row takes from below is that of the part to which the way turns
 top-entry : (f : Rule) (m : ℕ) (t : Tree) → entry-below (way f m t .passed) (entryAt (way f m t .end)) ≡ entryAt t
@@ -151,15 +152,15 @@ turned-there : (s : Side) (l r : Tree) → Turns-down s (exists l) (exists r) �
 turned-there left l r turn = turn
 turned-there right l r turn = turn .1
 
--- an erase takes the first word of a part away
+-- an erase takes the first entry of a part away
 Popped : ℕ → Tree → Way → Type 0
 Popped m t w =
     (path low : ℕ) → Proper m path low t → exists t ≡ true
     → let g : Tree = linked (lifted (w .passed) (entryAt (w .end))) none in
-    Proper m path (suc (entryAt t .key)) g × (entryAt t .key ∷ listing g ≡ listing t)
+    Proper m path (suc (entryAt t .key)) g × (entryAt t ∷ entries g ≡ entries t)
 
 pop-ends : At-end (down left) Popped
-unfolding Popped Proper listing down linked lifted
+unfolding Popped Proper entries down linked lifted
 pop-ends zero none at-bottom path low h there = let never : _≡_ {A = ℕ} 0 1 = cc in absurd (omega arith)
 pop-ends zero (row i e l r) at-bottom path low h there = (tt, rw (h .parts left, h .parts right))
 pop-ends zero damaged at-bottom path low h there = absurd h
@@ -168,7 +169,7 @@ pop-ends (suc m) damaged at-damage path low h there = absurd h
 pop-ends (suc m) (row i e l r) (at-stop says) path low h there = (tt, both-none (exists l) refl (exists r) refl says)
   where
     both-none : (a : Bool) → exists l ≡ a → (b : Bool) → exists r ≡ b → (if a then to left else if b then to right else stop) ≡ stop
-        → e .key ∷ [] ≡ e .key ∷ (listing l ++ listing r)
+        → e ∷ [] ≡ e ∷ (entries l ++ entries r)
     both-none true is-left b is-right says = cc
     both-none false is-left true is-right says = cc
     both-none false is-left false is-right says = rw (absent-link l is-left, absent-link r is-right)
@@ -180,15 +181,15 @@ pop-beside m path low left l r turn parts =
     let on-right : ℕ = path * 2 + bitOf right in
     let top : Fitting m (path * 2 + bitOf left) low (entryAt l .key) = top-fits m (path * 2 + bitOf left) low l (parts left) turn in
     proper-from m on-right low (suc (entryAt l .key)) r (parts right)
-    (all-map (λ x f. left-below-right m path (entryAt l .key) x (top .on-path) (f .on-path)) (keys-fit m on-right low r (parts right)))
+    (all-map (λ x f. left-below-right m path (entryAt l .key) (x .key) (top .on-path) (f .on-path)) (keys-fit m on-right low r (parts right)))
 pop-beside m path low right l r turn parts =
     rw (absent-link l (turn .0)) (proper-none m (path * 2 + bitOf left) (suc (entryAt r .key)))
 
 pop-lists : (i : ℕ) (e top : Entry) (s : Side) (l r g : Tree) → Turns-down s (exists l) (exists r)
-    → top .key ∷ listing g ≡ listing (part s l r) → e .key ∷ listing (linking i top s l r g) ≡ listing (row i e l r)
-unfolding listing
-pop-lists i e top left l r g turn rest = ap (λ xs. e .key ∷ (xs ++ listing r)) rest
-pop-lists i e top right l r g turn rest = rw (absent-link l (turn .0)) (ap (λ xs. e .key ∷ xs) rest)
+    → top ∷ entries g ≡ entries (part s l r) → e ∷ entries (linking i top s l r g) ≡ entries (row i e l r)
+unfolding entries
+pop-lists i e top left l r g turn rest = ap (λ xs. e ∷ (xs ++ entries r)) rest
+pop-lists i e top right l r g turn rest = rw (absent-link l (turn .0)) (ap (λ xs. e ∷ xs) rest)
 
 pop-goes : Onward (down left) Popped
 unfolding Popped Proper linked lifted down
@@ -202,7 +203,7 @@ pop-goes m i e l r s says rest path low h there =
     let fits : Fitting m on-side (suc (e .key)) (top .key) = top-fits m on-side (suc (e .key)) (part s l r) (h .parts s) some in
     let own : Fitting (suc m) path (suc (e .key)) (top .key) =
     record { not-below = fits .not-below; on-path = from-part m (top .key) path s (fits .on-path) } in
-    let below : Proper m on-side (suc (top .key)) g × (top .key ∷ listing g ≡ listing (part s l r)) =
+    let below : Proper m on-side (suc (top .key)) g × (top ∷ entries g ≡ entries (part s l r)) =
     rest on-side (suc (e .key)) (h .parts s) some in
     rw (top-entry (down left) m (part s l r)) (
       linking-proper m path (suc (e .key)) i top s l r g own (pop-beside m path (suc (e .key)) s l r turn (h .parts)) (below .0),
@@ -217,9 +218,9 @@ module _ (m path low : ℕ) (t : Tree) (h : Proper m path low t) (there : exists
   unfolding popped-tree Popped
   pop-proper = pop-way m t path low h there .0
 
-  pub pop-listing : entryAt t .key ∷ listing (popped-tree m t) ≡ listing t
+  pub pop-entries : entryAt t ∷ entries (popped-tree m t) ≡ entries t
   unfolding popped-tree Popped
-  pop-listing = pop-way m t path low h there .1
+  pop-entries = pop-way m t path low h there .1
 
 -- what a push and an erase leave is what their takes say: each row that takes an entry has it
 abbrev pub taken-by : List Step → List Take

@@ -7,8 +7,8 @@ use mathlib.Core.Logic.{_↔_}
 use native.Mathlib.Omega.{arith}
 use lib.Dec.{ltb, leb}
 use borrow.Author.Tests.{lt-ltb, ltb-true, ltb-false, leb-true, leb-false}
-use Rattle.ordered.specs.Such.{if_then_else_, Perhaps, no-such, such}
-use Rattle.ordered.specs.Dictionary.{Increasing, lookup, successor, predecessor}
+use Rattle.ordered.specs.Such.{if_then_else_, Perhaps, no-such, such, isThere}
+use Rattle.ordered.specs.Dictionary.{Entry, words, wordOf, Increasing, lookup, successor, predecessor}
 use Rattle.ordered.specs.Said.{_∈_, Foremost, it-is, none-is, Least, Greatest, apart, Nearest, nearest-is, no-nearest}
 use Rattle.ordered.specs.Reading.{nearest}
 use Rattle.ordered.proofs.Dictionary.{lookup-whether, successor-least, predecessor-greatest}
@@ -44,9 +44,13 @@ module _ (k : ℕ) (s : List ℕ) where
   from-both absent (none-is none-below) (none-is none-above) =
       no-nearest (λ z in-s. by-side absent z in-s (λ less. none-below z in-s (lt-ltb z k less)) (λ more. none-above z in-s (lt-ltb k z more)))
 
-  pub gap-nearest : Increasing s → Nearest k s (if lookup k s then such 0 else nearest k (predecessor k s) (successor k s))
-  gap-nearest rising = go (lookup k s) refl
-    where
-      go : (b : Bool) → lookup k s ≡ b → Nearest k s (if b then such 0 else nearest k (predecessor k s) (successor k s))
-      go true e = nearest-is {y = k} {d = 0} (lookup-whether k s .0 e) (omega arith) (λ z in-s. omega arith)
-      go false e = from-both (λ there. true≢false (sym (lookup-whether k s .1 there) ∙ e)) (predecessor-greatest k rising) (successor-least k rising)
+pub gap-nearest : (k : ℕ) (s : List Entry) → Increasing (words s)
+    → Nearest k (words s) (if isThere (lookup k s) then such 0 else nearest k (wordOf (predecessor k s)) (wordOf (successor k s)))
+gap-nearest k s rising = go (isThere (lookup k s)) refl
+  where
+    go : (b : Bool) → isThere (lookup k s) ≡ b
+        → Nearest k (words s) (if b then such 0 else nearest k (wordOf (predecessor k s)) (wordOf (successor k s)))
+    go true e = nearest-is {y = k} {d = 0} (lookup-whether k s .0 e) (omega arith) (λ z in-s. omega arith)
+    go false e =
+        from-both k (words s) (λ there. true≢false (sym (lookup-whether k s .1 there) ∙ e)) (predecessor-greatest k s rising)
+        (successor-least k s rising)

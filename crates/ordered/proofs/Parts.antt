@@ -1,13 +1,13 @@
 -- Laws of lists: what holds of every element, what is sought in a list, and both where the list is joined from parts.
 use Prim.Native.Nat.{ℕ, _<_}
-use mathlib.Core.Path.{_≡_, refl, sym}
-use mathlib.Core.Bool.{Bool, true, false, _||_, or-assoc, or-false}
+use mathlib.Core.Path.{_≡_, refl, sym, ap}
+use mathlib.Core.Bool.{Bool, true, false}
 use mathlib.Core.List.{List, [], _∷_, _++_, List·Memᴰ, List·Memᴰ·head, List·Memᴰ·tail}
 use native.Mathlib.Omega.{arith}
 use lib.Dec.{ltb, eqb}
 use borrow.Author.Tests.{lt-ltb, le-ltb, ne-eqb}
 use Rattle.ordered.specs.Such.{if_then_else_, Perhaps, no-such, such, first-of, only-if, first-such, last-such, anything}
-use Rattle.ordered.specs.Dictionary.{Above, none-above, one-above, Increasing, none-increasing, one-increasing, insert, lookup, delete}
+use Rattle.ordered.specs.Dictionary.{Entry, words, Above, none-above, one-above, Increasing, none-increasing, one-increasing, insert, lookup, delete}
 
 -- P holds of every element
 pub data All {A : Type 0} (P : A → Type 0) : List A → Type 0 where
@@ -36,19 +36,28 @@ module _ {A : Type 0} where
   all-of-each [] f = none-all
   all-of-each (x ∷ xs) f = one-all (f x (List·Memᴰ·head refl)) (all-of-each xs (λ y i. f y (List·Memᴰ·tail i)))
 
-pub all-above : {x : ℕ} {ys : List ℕ} → All (λ y. x < y) ys → Above x ys
+-- P holds of the word of every entry
+abbrev pub AllWords : (ℕ → Type 0) → List Entry → Type 0
+AllWords P es = All (λ e. P (e .key)) es
+
+pub all-above : {x : ℕ} {es : List Entry} → AllWords (λ y. x < y) es → Above x (words es)
 all-above none-all = none-above
 all-above (one-all h hs) = one-above h (all-above hs)
 
-pub above-all : {x : ℕ} {ys : List ℕ} → Above x ys → All (λ y. x < y) ys
-above-all none-above = none-all
-above-all (one-above h hs) = one-all h (above-all hs)
+pub above-all : {x : ℕ} (es : List Entry) → Above x (words es) → AllWords (λ y. x < y) es
+above-all [] none-above = none-all
+above-all (e ∷ es) (one-above h hs) = one-all h (above-all es hs)
 
--- two increasing lists, one wholly below the other
-pub append-increasing : {xs ys : List ℕ} → Increasing xs → Increasing ys → All (λ x. Above x ys) xs → Increasing (xs ++ ys)
-append-increasing none-increasing k apart = k
-append-increasing (one-increasing a h) k (one-all b apart) =
-    one-increasing (all-above (all-append (above-all a) (above-all b))) (append-increasing h k apart)
+pub words-append : (es fs : List Entry) → words (es ++ fs) ≡ words es ++ words fs
+words-append [] fs = refl
+words-append (e ∷ es) fs = ap (λ xs. e .key ∷ xs) (words-append es fs)
+
+-- the words of two sets, one wholly below the other
+pub append-increasing : (es fs : List Entry) → Increasing (words es) → Increasing (words fs)
+    → AllWords (λ x. Above x (words fs)) es → Increasing (words (es ++ fs))
+append-increasing [] fs h k apart = k
+append-increasing (e ∷ es) fs (one-increasing a h) k (one-all b apart) =
+    one-increasing (all-above (all-append (above-all es a) (above-all fs b))) (append-increasing es fs h k apart)
 
 module _ {A : Type 0} where
   pub first-of-assoc : (p q r : Perhaps A) → first-of (first-of p q) r ≡ first-of p (first-of q r)
@@ -131,58 +140,57 @@ module _ {A : Type 0} where
       only no-such found = tt
       only (such y) found = found .0
 
-pub lookup-append : (x : ℕ) (xs ys : List ℕ) → lookup x (xs ++ ys) ≡ (lookup x xs || lookup x ys)
+-- a word that no entry has is not found
+pub no-lookup : (x : ℕ) (es : List Entry) → AllWords (λ y. eqb x y ≡ false) es → lookup x es ≡ no-such
 unfolding lookup
-lookup-append x [] ys = refl
-lookup-append x (y ∷ xs) ys = rw (lookup-append x xs ys) (sym (or-assoc (eqb x y) (lookup x xs) (lookup x ys)))
+no-lookup x es absent = no-first es absent
 
-pub no-lookup : (x : ℕ) (xs : List ℕ) → All (λ y. eqb x y ≡ false) xs → lookup x xs ≡ false
-unfolding lookup
-no-lookup x [] none-all = refl
-no-lookup x (y ∷ ys) (one-all h hs) = rw (h, no-lookup x ys hs)
-
-pub lookup-between : (x : ℕ) (xs ys zs : List ℕ) → All (λ y. eqb x y ≡ false) xs → All (λ y. eqb x y ≡ false) zs
+pub lookup-between : (x : ℕ) (xs ys zs : List Entry) → AllWords (λ y. eqb x y ≡ false) xs → AllWords (λ y. eqb x y ≡ false) zs
     → lookup x (xs ++ (ys ++ zs)) ≡ lookup x ys
+unfolding lookup
 lookup-between x xs ys zs fail fail′ =
-    rw (lookup-append x xs (ys ++ zs), no-lookup x xs fail, lookup-append x ys zs, no-lookup x zs fail′) (or-false (lookup x ys))
+    rw (first-such-append (λ e. eqb x (e .key)) xs (ys ++ zs), no-first xs fail, first-such-append (λ e. eqb x (e .key)) ys zs, no-first zs fail′)
+    (first-of-no-such (first-such (λ e. eqb x (e .key)) ys))
 
 -- insert and delete among three parts, of which the outer ones are below and above the word
-module _ (x : ℕ) where
-  pub insert-before : (zs : List ℕ) → All (λ z. x < z) zs → insert x zs ≡ x ∷ zs
+module _ (e : Entry) where
+  pub insert-before : (zs : List Entry) → AllWords (λ z. e .key < z) zs → insert e zs ≡ e ∷ zs
   unfolding insert
   insert-before [] none-all = refl
-  insert-before (z ∷ zs) (one-all h hs) = rw (lt-ltb x z h)
+  insert-before (z ∷ zs) (one-all h hs) = rw (lt-ltb (e .key) (z .key) h)
 
-  insert-after : (xs ys : List ℕ) → All (λ y. y < x) xs → insert x (xs ++ ys) ≡ xs ++ insert x ys
+  insert-after : (xs ys : List Entry) → AllWords (λ y. y < e .key) xs → insert e (xs ++ ys) ≡ xs ++ insert e ys
   unfolding insert
   insert-after [] ys none-all = refl
-  insert-after (y ∷ xs) ys (one-all h hs) = rw (le-ltb x y (omega arith), ne-eqb x y (λ same. omega arith), insert-after xs ys hs)
+  insert-after (y ∷ xs) ys (one-all h hs) =
+      rw (le-ltb (e .key) (y .key) (omega arith), ne-eqb (e .key) (y .key) (λ same. omega arith), insert-after xs ys hs)
 
-  insert-append : (ys zs : List ℕ) → All (λ z. x < z) zs → insert x (ys ++ zs) ≡ insert x ys ++ zs
+  insert-append : (ys zs : List Entry) → AllWords (λ z. e .key < z) zs → insert e (ys ++ zs) ≡ insert e ys ++ zs
   unfolding insert
   insert-append [] zs above = insert-before zs above
-  insert-append (y ∷ ys) zs above = rw (insert-append ys zs above) (either (ltb x y) (eqb x y))
+  insert-append (y ∷ ys) zs above = rw (insert-append ys zs above) (either (ltb (e .key) (y .key)) (eqb (e .key) (y .key)))
     where
       either : (a b : Bool)
-          → (if a then x ∷ y ∷ (ys ++ zs) else if b then y ∷ (ys ++ zs) else y ∷ (insert x ys ++ zs))
-          ≡ (if a then x ∷ y ∷ ys else if b then y ∷ ys else y ∷ insert x ys) ++ zs
+          → (if a then e ∷ y ∷ (ys ++ zs) else if b then e ∷ (ys ++ zs) else y ∷ (insert e ys ++ zs))
+          ≡ (if a then e ∷ y ∷ ys else if b then e ∷ ys else y ∷ insert e ys) ++ zs
       either true b = refl
       either false true = refl
       either false false = refl
 
-  pub insert-between : (xs ys zs : List ℕ) → All (λ y. y < x) xs → All (λ z. x < z) zs
-      → insert x (xs ++ (ys ++ zs)) ≡ xs ++ (insert x ys ++ zs)
+  pub insert-between : (xs ys zs : List Entry) → AllWords (λ y. y < e .key) xs → AllWords (λ z. e .key < z) zs
+      → insert e (xs ++ (ys ++ zs)) ≡ xs ++ (insert e ys ++ zs)
   insert-between xs ys zs below above = rw (insert-after xs (ys ++ zs) below, insert-append ys zs above)
 
-  pub delete-absent : (xs : List ℕ) → All (λ y. eqb x y ≡ false) xs → delete x xs ≡ xs
+module _ (x : ℕ) where
+  pub delete-absent : (xs : List Entry) → AllWords (λ y. eqb x y ≡ false) xs → delete x xs ≡ xs
   unfolding delete
   delete-absent [] none-all = refl
   delete-absent (y ∷ ys) (one-all h hs) = rw (h, delete-absent ys hs)
 
-  delete-append : (xs ys : List ℕ) → delete x (xs ++ ys) ≡ delete x xs ++ delete x ys
+  delete-append : (xs ys : List Entry) → delete x (xs ++ ys) ≡ delete x xs ++ delete x ys
   unfolding delete
   delete-append [] ys = refl
-  delete-append (y ∷ xs) ys = rw (delete-append xs ys) (either (eqb x y))
+  delete-append (y ∷ xs) ys = rw (delete-append xs ys) (either (eqb x (y .key)))
     where
       either : (b : Bool)
           → (if b then delete x xs ++ delete x ys else y ∷ (delete x xs ++ delete x ys))
@@ -190,7 +198,7 @@ module _ (x : ℕ) where
       either true = refl
       either false = refl
 
-  pub delete-between : (xs ys zs : List ℕ) → All (λ y. eqb x y ≡ false) xs → All (λ y. eqb x y ≡ false) zs
+  pub delete-between : (xs ys zs : List Entry) → AllWords (λ y. eqb x y ≡ false) xs → AllWords (λ y. eqb x y ≡ false) zs
       → delete x (xs ++ (ys ++ zs)) ≡ xs ++ (delete x ys ++ zs)
   delete-between xs ys zs below above =
       rw (delete-append xs (ys ++ zs), delete-append ys zs, delete-absent xs below, delete-absent zs above)

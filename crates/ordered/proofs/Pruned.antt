@@ -10,9 +10,10 @@ use lib.Dec.{ltb, eqb}
 use Rattle.ordered.specs.Such.{if_then_else_, Perhaps, no-such, such, first-of, only-if, last-such}
 use Rattle.ordered.specs.Word.{Side, left, right, isSide}
 use Rattle.ordered.specs.Said.{_∈_, Whether}
-use Rattle.ordered.specs.Tree.{Tree, none, row, damaged, Entry, exists}
+use Rattle.ordered.specs.Dictionary.{Entry}
+use Rattle.ordered.specs.Tree.{Tree, none, row, damaged, exists}
 use Rattle.ordered.specs.Way.{Step, Way, Rule, Turn, stop, to, way, endNumber, readOn, isDamaged, broken, passing, turning, joined, following, passing-equal, pushing, down, staying}
-use Rattle.ordered.specs.Reading.{Reading, readOf, brokenIn, keyAt, to-its-end, has, right-left-aside, right-child, next-by, next, left-left-aside, prev-by, prev, first, last, gap-by, gap}
+use Rattle.ordered.specs.Reading.{Found, passed-row, Reading, readOf, brokenIn, root-row, end-row, end-if, wordIn, to-its-end, has, right-left-aside, right-child, next-by, next, left-left-aside, prev-by, prev, first, last, gap-by, gap}
 use Rattle.ordered.specs.Change.{Adding, Erasing, ends-at, numberAt, adding-by, adding, erasing-by, erasing}
 use Rattle.ordered.proofs.Ways.{step, Blind, following-blind, passing-equal-blind, pushing-blind, staying-blind, down-blind}
 
@@ -42,9 +43,9 @@ module _ (Bad : ℕ → Type 0) (σ : ℕ → ℕ) where
     no-steps : Steps [] []
     steps : {s s′ : Step} {ss ss′ : List Step} → Beside s s′ → Steps ss ss′ → Steps (s ∷ ss) (s′ ∷ ss′)
 
-  data Found : Perhaps Step → Perhaps Step → Type 0 where
-    neither : Found no-such no-such
-    both : {s s′ : Step} → Beside s s′ → Found (such s) (such s′)
+  data FindAlike : Perhaps Step → Perhaps Step → Type 0 where
+    neither : FindAlike no-such no-such
+    both : {s s′ : Step} → Beside s s′ → FindAlike (such s) (such s′)
 
   -- a way over the whole tree and one over the pruned tree: the first reads a bad row and the second breaks, or both pass the same rows and
   -- end alike
@@ -63,7 +64,7 @@ module _ (Bad : ℕ → Type 0) (σ : ℕ → ℕ) where
 -- the law for one way, for `add` and for `del`: also, if the second does not break, they end alike
 pub record CutWay (Bad : ℕ → Type 0) (σ : ℕ → ℕ) (w v : Way) : Type 0 where
   pub exactly : BreaksExactly Bad (w ∷ []) (v ∷ [])
-  pub same-key : broken v ≡ false → keyAt (w .end) ≡ keyAt (v .end)
+  pub same-row : broken v ≡ false → end-row w ≡ end-row v
   pub same-number : broken v ≡ false → σ (numberAt (w .end)) ≡ numberAt (v .end)
 
 pub record CutAdding (Bad : ℕ → Type 0) (a a′ : Adding) : Type 0 where
@@ -93,24 +94,24 @@ at-damage f zero = refl
 at-damage f (suc m) = refl
 
 -- each call, given its first way
-abbrev next-from : ℕ → Way → Reading
-next-from k w = next-by w (only-if (ltb k) (keyAt (w .end))) (last-such right-left-aside (w .passed))
+abbrev next-from : ℕ → Way → Reading Found
+next-from k w = next-by w (end-if (ltb k) w) (last-such right-left-aside (w .passed))
 
 abbrev lower-key : ℕ → Step → Bool
 lower-key k s = ltb (s .entry .key) k
 
-abbrev prev-from : ℕ → Way → Reading
-prev-from k w = prev-by w (only-if (λ x. ltb x k) (keyAt (w .end))) (last-such (lower-key k) (w .passed))
+abbrev prev-from : ℕ → Way → Reading Found
+prev-from k w = prev-by w (end-if (λ x. ltb x k) w) (last-such (lower-key k) (w .passed))
 
-abbrev gap-from : ℕ → Way → Reading → Reading
-gap-from k w after = gap-by k (prev-from k w) after (only-if (eqb k) (keyAt (w .end))) (w ∷ [])
+abbrev gap-from : ℕ → Way → Reading Found → Reading ℕ
+gap-from k w after = gap-by k (prev-from k w) after (end-if (eqb k) w) (w ∷ [])
 
 -- a way that goes on from its end by another rule
 abbrev onward : Rule → Way → Way
 onward g w = joined w (way g (w .bits) (w .end))
 
-abbrev adding-from : ℕ → Way → Bool → Adding
-adding-from k w = adding-by k w (way pushing (w .bits) (w .end)) (onward pushing w)
+abbrev adding-from : Entry → Way → Bool → Adding
+adding-from e w = adding-by e w (way pushing (w .bits) (w .end)) (onward pushing w)
 
 abbrev erasing-from : Way → Bool → Erasing
 erasing-from w = erasing-by w (way (down left) (w .bits) (w .end)) (onward (down left) w)
@@ -120,16 +121,16 @@ abbrev Led : Way → List Way → Type 0
 Led w ws = (rest : List Way) × (ws ≡ w ∷ rest)
 
 next-led : (k : ℕ) (w : Way) → Led w (next-from k w .ways)
-next-led k w = led (only-if (ltb k) (keyAt (w .end))) (last-such right-left-aside (w .passed))
+next-led k w = led (end-if (ltb k) w) (last-such right-left-aside (w .passed))
   where
-    led : (q : Perhaps ℕ) (p : Perhaps Step) → Led w (next-by w q p .ways)
+    led : (q : Perhaps Found) (p : Perhaps Step) → Led w (next-by w q p .ways)
     led (such x) p = ([], refl)
     led no-such p = (right-child p ∷ [], refl)
 
 prev-led : (k : ℕ) (w : Way) → Led w (prev-from k w .ways)
-prev-led k w = led (only-if (λ x. ltb x k) (keyAt (w .end))) (last-such (lower-key k) (w .passed))
+prev-led k w = led (end-if (λ x. ltb x k) w) (last-such (lower-key k) (w .passed))
   where
-    led : (q : Perhaps ℕ) (p : Perhaps Step) → Led w (prev-by w q p .ways)
+    led : (q : Perhaps Found) (p : Perhaps Step) → Led w (prev-by w q p .ways)
     led (such x) p = ([], refl)
     led no-such no-such = ([], refl)
     led no-such (such p) = either (left-left-aside p)
@@ -137,14 +138,14 @@ prev-led k w = led (only-if (λ x. ltb x k) (keyAt (w .end))) (last-such (lower-
         d : Way
         d = way (down right) (p .below) (p .left-part)
 
-        either : (b : Bool) → Led w ((if b then to-its-end (w ∷ []) d else record { ways = w ∷ []; answer = such (p .entry .key) }) .ways)
+        either : (b : Bool) → Led w ((if b then to-its-end (w ∷ []) d else record { ways = w ∷ []; answer = such (passed-row p) }) .ways)
         either true = (d ∷ [], refl)
         either false = ([], refl)
 
-gap-led : (k : ℕ) (w : Way) (after : Reading) → Led w (gap-from k w after .ways)
-gap-led k w after = led (only-if (eqb k) (keyAt (w .end)))
+gap-led : (k : ℕ) (w : Way) (after : Reading Found) → Led w (gap-from k w after .ways)
+gap-led k w after = led (end-if (eqb k) w)
   where
-    led : (q : Perhaps ℕ) → Led w (gap-by k (prev-from k w) after q (w ∷ []) .ways)
+    led : (q : Perhaps Found) → Led w (gap-by k (prev-from k w) after q (w ∷ []) .ways)
     led (such x) = ([], refl)
     led no-such = let (rest, e) = prev-led k w in (rest ++ after .ways, rw e)
 
@@ -194,10 +195,10 @@ module _ {Bad : ℕ → Type 0} {σ : ℕ → ℕ} where
   end-good (kept good lefts rights) whole = none-cons good none-empty
   end-good (cut bad) whole = absurd (false≢true (sym whole))
 
-  key-same : {t t′ : Tree} → Pruned Bad σ t t′ → isDamaged t′ ≡ false → keyAt t′ ≡ keyAt t
-  key-same empty whole = refl
-  key-same (kept good lefts rights) whole = refl
-  key-same (cut bad) whole = absurd (false≢true (sym whole))
+  row-same : (m : ℕ) {t t′ : Tree} → Pruned Bad σ t t′ → isDamaged t′ ≡ false → root-row m t′ ≡ root-row m t
+  row-same m empty whole = refl
+  row-same m (kept good lefts rights) whole = refl
+  row-same m (cut bad) whole = absurd (false≢true (sym whole))
 
   number-same : {t t′ : Tree} → σ 0 ≡ 0 → Pruned Bad σ t t′ → isDamaged t′ ≡ false → numberAt t′ ≡ σ (numberAt t)
   number-same zero-same empty whole = sym zero-same
@@ -259,32 +260,32 @@ module _ {Bad : ℕ → Type 0} {σ : ℕ → ℕ} where
 
   -- the last row passed with a property
   found : (p : Step → Bool) → ((s s′ : Step) → Beside Bad σ s s′ → p s′ ≡ p s) → {ss ss′ : List Step} → Steps Bad σ ss ss′
-      → Found Bad σ (last-such p ss) (last-such p ss′)
+      → FindAlike Bad σ (last-such p ss) (last-such p ss′)
   unfolding last-such
   found p same no-steps = neither
   found p same (steps {s} {s′} b rest) = rw (same s s′ b) (either (found p same rest) (p s))
     where
-      either : {q q′ : Perhaps Step} → Found Bad σ q q′ → (c : Bool)
-          → Found Bad σ (first-of q (if c then such s else no-such)) (first-of q′ (if c then such s′ else no-such))
+      either : {q q′ : Perhaps Step} → FindAlike Bad σ q q′ → (c : Bool)
+          → FindAlike Bad σ (first-of q (if c then such s else no-such)) (first-of q′ (if c then such s′ else no-such))
       either neither true = both b
       either neither false = neither
       either (both b′) c = both b′
 
-  next-by-alike : {w v : Way} {p p′ : Perhaps Step} → GoesAlike Bad σ w v → (q : Perhaps ℕ) → Found Bad σ p p′
+  next-by-alike : {w v : Way} {p p′ : Perhaps Step} → GoesAlike Bad σ w v → (q : Perhaps Found) → FindAlike Bad σ p p′
       → AllGoAlike Bad σ (next-by w q p .ways) (next-by v q p′ .ways)
   next-by-alike g (such x) f = one-way g no-ways
   next-by-alike g no-such neither = one-way g (one-way (ends no-steps empty refl) no-ways)
   next-by-alike g no-such (both (beside {m} good lefts rights)) = one-way g (one-way (goes-alike staying staying-blind m rights) no-ways)
 
-  prev-by-alike : {w v : Way} {p p′ : Perhaps Step} → GoesAlike Bad σ w v → (q : Perhaps ℕ) → Found Bad σ p p′
+  prev-by-alike : {w v : Way} {p p′ : Perhaps Step} → GoesAlike Bad σ w v → (q : Perhaps Found) → FindAlike Bad σ p p′
       → AllGoAlike Bad σ (prev-by w q p .ways) (prev-by v q p′ .ways)
   prev-by-alike g (such x) f = one-way g no-ways
   prev-by-alike g no-such neither = one-way g no-ways
   prev-by-alike {w} {v} g no-such (both (beside {m} {e} {l} {l′} {s} good lefts rights)) =
       rw (exists-same lefts) (either (isSide right s && exists l))
     where
-      aside : Bool → Way → Tree → Reading
-      aside b w t = if b then to-its-end (w ∷ []) (way (down right) m t) else record { ways = w ∷ []; answer = such (e .key) }
+      aside : Bool → Way → Tree → Reading Found
+      aside b w t = if b then to-its-end (w ∷ []) (way (down right) m t) else record { ways = w ∷ []; answer = such (record { entry = e; bits = suc m }) }
 
       either : (b : Bool) → AllGoAlike Bad σ (aside b w l .ways) (aside b v l′ .ways)
       either true = one-way g (one-way (goes-alike (down right) (down-blind right) m lefts) no-ways)
@@ -300,6 +301,24 @@ module _ {Bad : ℕ → Type 0} {σ : ℕ → ℕ} where
     unfolding last
     last-tested = one-tested (goes-alike (down right) (down-blind right) m pruned)
 
+    pub adding-tested : (e : Entry) → CutAdding Bad (adding m e t) (adding m e t′)
+    unfolding adding joined broken
+    adding-tested e = by-way (goes-alike (following (e .key)) (following-blind (e .key)) m pruned)
+      where
+        by-way : {w v : Way} → GoesAlike Bad σ w v → CutAdding Bad (adding-from e w (ends-at (e .key) w)) (adding-from e v (ends-at (e .key) v))
+        by-way (breaks {w} {ss} {m} bad) = rw (at-damage pushing m) (either (ends-at (e .key) w))
+          where
+            either : (b : Bool)
+                → CutAdding Bad (adding-from e w b) (adding-by e (way-to ss m damaged) (way-to [] m damaged) (way-to (ss ++ []) m damaged) false)
+            either true = record { exactly = one-tested (breaks bad); same-presence = λ unbroken. absurd (false≢true (sym unbroken)) }
+            either false =
+                record { exactly = one-tested (breaks (bad-onward pushing w bad)); same-presence = λ unbroken. absurd (false≢true (sym unbroken)) }
+        by-way {w} {v} (ends {m} ss end whole) = rw (row-same m end whole) (either (ends-at (e .key) w))
+          where
+            either : (b : Bool) → CutAdding Bad (adding-from e w b) (adding-from e v b)
+            either true = record { exactly = one-tested (ends ss end whole); same-presence = λ unbroken. refl }
+            either false = record { exactly = one-tested (onward-alike pushing pushing-blind (ends ss end whole)); same-presence = λ unbroken. refl }
+
     module _ (k : ℕ) where
       the-way : GoesAlike Bad σ (way (following k) m t) (way (following k) m t′)
       the-way = goes-alike (following k) (following-blind k) m pruned
@@ -308,7 +327,7 @@ module _ {Bad : ℕ → Type 0} {σ : ℕ → ℕ} where
       unfolding next
       next-alike = by-way (goes-alike (passing-equal k) (passing-equal-blind k) m pruned)
         where
-          sought : {ss ss′ : List Step} → Steps Bad σ ss ss′ → Found Bad σ (last-such right-left-aside ss) (last-such right-left-aside ss′)
+          sought : {ss ss′ : List Step} → Steps Bad σ ss ss′ → FindAlike Bad σ (last-such right-left-aside ss) (last-such right-left-aside ss′)
           sought = found right-left-aside same
             where
               same : (s s′ : Step) → Beside Bad σ s s′ → right-left-aside s′ ≡ right-left-aside s
@@ -316,14 +335,14 @@ module _ {Bad : ℕ → Type 0} {σ : ℕ → ℕ} where
 
           by-way : {w v : Way} → GoesAlike Bad σ w v → AllGoAlike Bad σ (next-from k w .ways) (next-from k v .ways)
           by-way (breaks {w} {ss} {m} bad) = cut-first bad (next-led k w) (next-led k (way-to ss m damaged))
-          by-way (ends {t} ss end whole) =
-              rw (key-same end whole) (next-by-alike (ends ss end whole) (only-if (ltb k) (keyAt t)) (sought ss))
+          by-way (ends {m} {t} ss end whole) =
+              rw (row-same m end whole) (next-by-alike (ends ss end whole) (only-if (λ f. ltb k (wordIn f)) (root-row m t)) (sought ss))
 
       prev-alike : AllGoAlike Bad σ (prev m k t .ways) (prev m k t′ .ways)
       unfolding prev
       prev-alike = by-way the-way
         where
-          sought : {ss ss′ : List Step} → Steps Bad σ ss ss′ → Found Bad σ (last-such (lower-key k) ss) (last-such (lower-key k) ss′)
+          sought : {ss ss′ : List Step} → Steps Bad σ ss ss′ → FindAlike Bad σ (last-such (lower-key k) ss) (last-such (lower-key k) ss′)
           sought = found (lower-key k) same
             where
               same : (s s′ : Step) → Beside Bad σ s s′ → lower-key k s′ ≡ lower-key k s
@@ -331,8 +350,8 @@ module _ {Bad : ℕ → Type 0} {σ : ℕ → ℕ} where
 
           by-way : {w v : Way} → GoesAlike Bad σ w v → AllGoAlike Bad σ (prev-from k w .ways) (prev-from k v .ways)
           by-way (breaks {w} {ss} {m} bad) = cut-first bad (prev-led k w) (prev-led k (way-to ss m damaged))
-          by-way (ends {t} ss end whole) =
-              rw (key-same end whole) (prev-by-alike (ends ss end whole) (only-if (λ x. ltb x k) (keyAt t)) (sought ss))
+          by-way (ends {m} {t} ss end whole) =
+              rw (row-same m end whole) (prev-by-alike (ends ss end whole) (only-if (λ f. ltb (wordIn f) k) (root-row m t)) (sought ss))
 
       gap-alike : AllGoAlike Bad σ (gap m k t .ways) (gap m k t′ .ways)
       unfolding gap has prev
@@ -341,10 +360,10 @@ module _ {Bad : ℕ → Type 0} {σ : ℕ → ℕ} where
           by-way : {w v : Way} → GoesAlike Bad σ w v → AllGoAlike Bad σ (prev-from k w .ways) (prev-from k v .ways)
               → AllGoAlike Bad σ (gap-from k w (next m k t) .ways) (gap-from k v (next m k t′) .ways)
           by-way (breaks {w} {ss} {m = n} bad) before = cut-first bad (gap-led k w (next m k t)) (gap-led k (way-to ss n damaged) (next m k t′))
-          by-way {w} {v} (ends ss end whole) before =
-              either (only-if (eqb k) (keyAt (w .end))) (only-if (eqb k) (keyAt (v .end))) (ap (only-if (eqb k)) (key-same end whole))
+          by-way {w} {v} (ends {m = n} ss end whole) before =
+              either (end-if (eqb k) w) (end-if (eqb k) v) (ap (only-if (λ f. eqb k (wordIn f))) (row-same n end whole))
             where
-              either : (q q′ : Perhaps ℕ) → q′ ≡ q
+              either : (q q′ : Perhaps Found) → q′ ≡ q
                   → AllGoAlike Bad σ (gap-by k (prev-from k w) (next m k t) q (w ∷ []) .ways)
                   (gap-by k (prev-from k v) (next m k t′) q′ (v ∷ []) .ways)
               either (such x) q′ same = rw same (one-way (ends ss end whole) no-ways)
@@ -363,24 +382,6 @@ module _ {Bad : ℕ → Type 0} {σ : ℕ → ℕ} where
       pub gap-tested : BreaksExactly Bad (gap m k t .ways) (gap m k t′ .ways)
       gap-tested = ways-tested gap-alike
 
-      pub adding-tested : CutAdding Bad (adding m k t) (adding m k t′)
-      unfolding adding joined broken
-      adding-tested = by-way the-way
-        where
-          by-way : {w v : Way} → GoesAlike Bad σ w v → CutAdding Bad (adding-from k w (ends-at k w)) (adding-from k v (ends-at k v))
-          by-way (breaks {w} {ss} {m} bad) = rw (at-damage pushing m) (either (ends-at k w))
-            where
-              either : (b : Bool)
-                  → CutAdding Bad (adding-from k w b) (adding-by k (way-to ss m damaged) (way-to [] m damaged) (way-to (ss ++ []) m damaged) false)
-              either true = record { exactly = one-tested (breaks bad); same-presence = λ unbroken. absurd (false≢true (sym unbroken)) }
-              either false =
-                  record { exactly = one-tested (breaks (bad-onward pushing w bad)); same-presence = λ unbroken. absurd (false≢true (sym unbroken)) }
-          by-way {w} {v} (ends ss end whole) = rw (key-same end whole) (either (ends-at k w))
-            where
-              either : (b : Bool) → CutAdding Bad (adding-from k w b) (adding-from k v b)
-              either true = record { exactly = one-tested (ends ss end whole); same-presence = λ unbroken. refl }
-              either false = record { exactly = one-tested (onward-alike pushing pushing-blind (ends ss end whole)); same-presence = λ unbroken. refl }
-
       -- `numberAt` an empty tree is 0
       module _ (zero-same : σ 0 ≡ 0) where
         cut-way : {w v : Way} → GoesAlike Bad σ w v → CutWay Bad σ w v
@@ -388,13 +389,13 @@ module _ {Bad : ℕ → Type 0} {σ : ℕ → ℕ} where
         cut-way (breaks {w} {ss} {m} bad) =
             record {
               exactly = one-tested (breaks bad);
-              same-key = λ unbroken. absurd (false≢true (sym unbroken));
+              same-row = λ unbroken. absurd (false≢true (sym unbroken));
               same-number = λ unbroken. absurd (false≢true (sym unbroken));
             }
-        cut-way (ends ss end whole) =
+        cut-way (ends {m} ss end whole) =
             record {
               exactly = one-tested (ends ss end whole);
-              same-key = λ unbroken. sym (key-same end whole);
+              same-row = λ unbroken. sym (row-same m end whole);
               same-number = λ unbroken. sym (number-same zero-same end whole);
             }
 
@@ -419,7 +420,7 @@ module _ {Bad : ℕ → Type 0} {σ : ℕ → ℕ} where
                 either : (b : Bool) → CutErasing Bad σ (erasing-from w b) (erasing-from (way-to ss m damaged) false)
                 either true = broke (bad-onward (down left) w bad)
                 either false = broke bad
-            by-way {w} {v} (ends {m} ss end whole) = rw (key-same end whole) (either (ends-at k w))
+            by-way {w} {v} (ends {m} ss end whole) = rw (row-same m end whole) (either (ends-at k w))
               where
                 either : (b : Bool) → CutErasing Bad σ (erasing-from w b) (erasing-from v b)
                 either true =

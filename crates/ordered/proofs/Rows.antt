@@ -9,9 +9,10 @@ use lib.Dec.{ltb}
 use lib.ListN.{length, length-append}
 use Rattle.ordered.specs.Such.{if_then_else_, Perhaps, no-such, such, first-of, only-if, last-such, anything}
 use Rattle.ordered.specs.Word.{Side, left, right}
-use Rattle.ordered.specs.Tree.{Tree, none, row, damaged, Entry, part}
+use Rattle.ordered.specs.Dictionary.{Entry}
+use Rattle.ordered.specs.Tree.{Tree, none, row, damaged, part}
 use Rattle.ordered.specs.Way.{Step, Way, Rule, way, rows, endRows, joined, following, passing-equal, pushing, down, staying}
-use Rattle.ordered.specs.Reading.{rowsOf, keyAt, to-its-end, has, right-left-aside, next-by, next, left-left-aside, prev-by, prev, first, last, gap-by, gap}
+use Rattle.ordered.specs.Reading.{Found, passed-row, rowsOf, end-if, to-its-end, has, right-left-aside, next-by, next, left-left-aside, prev-by, prev, first, last, gap-by, gap}
 use Rattle.ordered.specs.Change.{adding-by, adding, erasing-by, erasing, ends-at}
 use Rattle.ordered.proofs.Parts.{same-last}
 use Rattle.ordered.proofs.Ways.{step, along, passed-pass, following-seeks}
@@ -59,7 +60,7 @@ pub last-rows : (m : ℕ) (t : Tree) → rowsOf (last m t .ways) ≤ m + 1
 unfolding last rowsOf
 last-rows m t = omega (arith, way-rows (down right) m t)
 
-next-by-rows : (w : Way) (q : Perhaps ℕ) (p : Perhaps Step) → rowsOf (next-by w q p .ways) ≤ rows w + 1
+next-by-rows : (w : Way) (q : Perhaps Found) (p : Perhaps Step) → rowsOf (next-by w q p .ways) ≤ rows w + 1
 unfolding rowsOf rows
 next-by-rows w (such x) p = omega arith
 next-by-rows w no-such no-such = omega arith
@@ -70,7 +71,7 @@ unfolding next
 next-rows m k t =
     let w : Way = way (passing-equal k) m t in
     let further : rowsOf (next m k t .ways) ≤ rows w + 1 =
-    next-by-rows w (only-if (ltb k) (keyAt (w .end))) (last-such right-left-aside (w .passed)) in
+    next-by-rows w (end-if (ltb k) w) (last-such right-left-aside (w .passed)) in
     omega (arith, way-rows (passing-equal k) m t)
 
 -- below the last row that a way passes there are as many bits left as where it ends
@@ -89,7 +90,7 @@ last-below f =
     above m i e l r s bits no-such rest = sym rest
     above m i e l r s bits (such p) rest = rest
 
-prev-by-rows : (m : ℕ) (w : Way) (q : Perhaps ℕ) (p : Perhaps Step) → length (w .passed) + w .bits ≡ m → Last-below m (w .bits) p
+prev-by-rows : (m : ℕ) (w : Way) (q : Perhaps Found) (p : Perhaps Step) → length (w .passed) + w .bits ≡ m → Last-below m (w .bits) p
     → rowsOf (prev-by w q p .ways) ≤ m + 2
 unfolding rowsOf rows
 prev-by-rows m w (such x) p sum below = omega (arith, one-end (w .end))
@@ -100,7 +101,7 @@ prev-by-rows m w no-such (such p) sum below = either (left-left-aside p)
     d = way (down right) (p .below) (p .left-part)
 
     either : (b : Bool)
-        → rowsOf ((if b then to-its-end (w ∷ []) d else record { ways = w ∷ []; answer = such (p .entry .key) }) .ways) ≤ m + 2
+        → rowsOf ((if b then to-its-end (w ∷ []) d else record { ways = w ∷ []; answer = such (passed-row p) }) .ways) ≤ m + 2
     either true = omega (arith, one-end (w .end), way-rows (down right) (p .below) (p .left-part))
     either false = omega (arith, one-end (w .end))
 
@@ -109,7 +110,7 @@ unfolding prev
 prev-rows m k t =
     let w : Way = way (following k) m t in
     rw (same-last (w .passed) (passed-pass (following k) (λ x. ltb x k) k (following-seeks k) m t))
-    (prev-by-rows m w (only-if (λ x. ltb x k) (keyAt (w .end))) (last-such anything (w .passed)) (passed-bits (following k) m t)
+    (prev-by-rows m w (end-if (λ x. ltb x k) w) (last-such anything (w .passed)) (passed-bits (following k) m t)
     (last-below (following k) m t))
 
 pub rows-append : (vs ws : List Way) → rowsOf (vs ++ ws) ≡ rowsOf vs + rowsOf ws
@@ -121,19 +122,19 @@ pub gap-rows : (m k : ℕ) (t : Tree) → rowsOf (gap m k t .ways) ≤ 2 * m + 4
 unfolding gap
 gap-rows m k t = either (has m k t .answer)
   where
-    either : (q : Perhaps ℕ) → rowsOf (gap-by k (prev m k t) (next m k t) q (has m k t .ways) .ways) ≤ 2 * m + 4
+    either : (q : Perhaps Found) → rowsOf (gap-by k (prev m k t) (next m k t) q (has m k t .ways) .ways) ≤ 2 * m + 4
     either (such x) = omega (arith, has-rows m k t)
     either no-such = omega (arith, rows-append (prev m k t .ways) (next m k t .ways), prev-rows m k t, next-rows m k t)
 
-pub adding-rows : (m k : ℕ) (t : Tree) → rows (adding m k t .rows-read) ≤ m + 1
+pub adding-rows : (m : ℕ) (e : Entry) (t : Tree) → rows (adding m e t .rows-read) ≤ m + 1
 unfolding adding
-adding-rows m k t = either (ends-at k (way (following k) m t))
+adding-rows m e t = either (ends-at (e .key) (way (following (e .key)) m t))
   where
     either : (b : Bool)
-        → let w : Way = way (following k) m t in let push : Way = way pushing (w .bits) (w .end) in
-        rows (adding-by k w push (joined w push) b .rows-read) ≤ m + 1
-    either true = way-rows (following k) m t
-    either false = joined-rows (following k) pushing m t
+        → let w : Way = way (following (e .key)) m t in let push : Way = way pushing (w .bits) (w .end) in
+        rows (adding-by e w push (joined w push) b .rows-read) ≤ m + 1
+    either true = way-rows (following (e .key)) m t
+    either false = joined-rows (following (e .key)) pushing m t
 
 pub erasing-rows : (m k : ℕ) (t : Tree) → rows (erasing m k t .rows-read) ≤ m + 1
 unfolding erasing

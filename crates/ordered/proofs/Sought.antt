@@ -7,12 +7,12 @@ use native.Mathlib.Omega.{arith}
 use lib.Dec.{ltb, leb}
 use borrow.Author.Tests.{lt-ltb, le-leb}
 use Rattle.ordered.specs.Word.{Side, left, right, bitOf, side}
-use Rattle.ordered.specs.Dictionary.{Above}
-use Rattle.ordered.specs.Tree.{Tree, none, row, damaged, Entry, part, listing}
+use Rattle.ordered.specs.Dictionary.{Entry, words, Above}
+use Rattle.ordered.specs.Tree.{Tree, none, row, damaged, part, entries}
 use Rattle.ordered.specs.Proper.{Proper}
 use Rattle.ordered.specs.Way.{Way, Rule, way, following, passing-equal}
 use Rattle.ordered.proofs.Bits.{to-part, left-below-right, whole-path}
-use Rattle.ordered.proofs.Parts.{All, none-all, one-all, all-map, all-append, all-above}
+use Rattle.ordered.proofs.Parts.{All, AllWords, none-all, one-all, all-map, all-append, all-above}
 use Rattle.ordered.proofs.OneTree.{keys-fit, parts-above}
 use Rattle.ordered.proofs.Ways.{Stops, at-bottom, at-none, at-damage, at-stop, Onward, along, left-aside, right-aside, lower, upper, Seeks, turns-so, stops-so, following-seeks, passing-equal-seeks}
 
@@ -21,11 +21,11 @@ use Rattle.ordered.proofs.Ways.{Stops, at-bottom, at-none, at-damage, a
 pub data Ends (test : ℕ → Bool) (k : ℕ) : Tree → Type 0 where
   at-no-row : Ends test k none
   at-last-bit : {i : ℕ} {e : Entry} → e .key ≡ k → Ends test k (row i e none none)
-  at-key : {i : ℕ} {e : Entry} {l r : Tree} → test (e .key) ≡ false → Above (e .key) (listing l ++ listing r) → Ends test k (row i e l r)
+  at-key : {i : ℕ} {e : Entry} {l r : Tree} → test (e .key) ≡ false → Above (e .key) (words (entries l ++ entries r)) → Ends test k (row i e l r)
 
 pub record Sought (test : ℕ → Bool) (k : ℕ) (w : Way) : Type 0 where
-  pub left-passes : All (λ x. test x ≡ true) (lower (w .passed))
-  pub right-above : All (λ x. k < x) (upper (w .passed))
+  pub left-passes : AllWords (λ x. test x ≡ true) (lower (w .passed))
+  pub right-above : AllWords (λ x. k < x) (upper (w .passed))
   pub ends : Ends test k (w .end)
 
 -- one law for the ways of a word: where the test lets every word below k pass, what lies left of the way passes it, and what lies right of
@@ -43,15 +43,15 @@ module _ (f : Rule) (test : ℕ → Bool) (k : ℕ) (seeks : Seeks f test k) (be
       at-key (stops-so f test k seeks m e l r says) (all-above (parts-above m path (suc (e .key)) l r (h .parts)))
 
   lefts-pass : (m path low : ℕ) (s : Side) (l : Tree) → k / 2 ^ m ≡ path * 2 + bitOf s
-      → Proper m (path * 2 + bitOf left) low l → All (λ x. test x ≡ true) (left-aside s l)
+      → Proper m (path * 2 + bitOf left) low l → AllWords (λ x. test x ≡ true) (left-aside s l)
   lefts-pass m path low left l on h = none-all
   lefts-pass m path low right l on h =
-      all-map (λ x f. below x (left-below-right m path x k (f .on-path) on)) (keys-fit m (path * 2 + bitOf left) low l h)
+      all-map (λ x f. below (x .key) (left-below-right m path (x .key) k (f .on-path) on)) (keys-fit m (path * 2 + bitOf left) low l h)
 
   rights-above : (m path low : ℕ) (s : Side) (r : Tree) → k / 2 ^ m ≡ path * 2 + bitOf s
-      → Proper m (path * 2 + bitOf right) low r → All (λ x. k < x) (right-aside s r)
+      → Proper m (path * 2 + bitOf right) low r → AllWords (λ x. k < x) (right-aside s r)
   rights-above m path low left r on h =
-      all-map (λ x f. left-below-right m path k x on (f .on-path)) (keys-fit m (path * 2 + bitOf right) low r h)
+      all-map (λ x f. left-below-right m path k (x .key) on (f .on-path)) (keys-fit m (path * 2 + bitOf right) low r h)
   rights-above m path low right r on h = none-all
 
   pub sought : (m : ℕ) (t : Tree) (path low : ℕ) → k / 2 ^ m ≡ path → Proper m path low t → Sought test k (way f m t)

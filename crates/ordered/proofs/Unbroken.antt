@@ -6,9 +6,10 @@ use mathlib.Core.List.{List, [], _∷_}
 use lib.Dec.{ltb}
 use Rattle.ordered.specs.Such.{if_then_else_, Perhaps, no-such, such, only-if, last-such}
 use Rattle.ordered.specs.Word.{Side, left, right}
+use Rattle.ordered.specs.Dictionary.{Entry}
 use Rattle.ordered.specs.Tree.{Tree, part, intact}
 use Rattle.ordered.specs.Way.{Step, Way, Rule, way, broken, joined, following, passing-equal, pushing, down, staying}
-use Rattle.ordered.specs.Reading.{brokenIn, keyAt, to-its-end, has, right-left-aside, next-by, next, left-left-aside, prev-by, prev, first, last, gap-by, gap}
+use Rattle.ordered.specs.Reading.{Found, passed-row, brokenIn, end-if, to-its-end, has, right-left-aside, next-by, next, left-left-aside, prev-by, prev, first, last, gap-by, gap}
 use Rattle.ordered.specs.Change.{ends-at, adding-by, adding, erasing-by, erasing}
 use Rattle.ordered.proofs.Parts.{All, none-all, one-all, all-append, If-such, last-such-one}
 use Rattle.ordered.proofs.Ways.{along, intact-part, unbroken}
@@ -41,14 +42,14 @@ unfolding brokenIn
 all-unbroken none-all = refl
 all-unbroken (one-all h hs) = rw (h, all-unbroken hs)
 
-next-by-unbroken : (w : Way) (q : Perhaps ℕ) (p : Perhaps Step) → broken w ≡ false → If-such Intact-step p
+next-by-unbroken : (w : Way) (q : Perhaps Found) (p : Perhaps Step) → broken w ≡ false → If-such Intact-step p
     → Unbroken (next-by w q p .ways)
 unfolding broken Intact-step
 next-by-unbroken w (such x) p sound h = one-all sound none-all
 next-by-unbroken w no-such no-such sound h = one-all sound (one-all refl none-all)
 next-by-unbroken w no-such (such s) sound h = one-all sound (one-all (unbroken staying (s .below) (s .right-part) (h right)) none-all)
 
-prev-by-unbroken : (w : Way) (q : Perhaps ℕ) (p : Perhaps Step) → broken w ≡ false → If-such Intact-step p
+prev-by-unbroken : (w : Way) (q : Perhaps Found) (p : Perhaps Step) → broken w ≡ false → If-such Intact-step p
     → Unbroken (prev-by w q p .ways)
 unfolding Intact-step
 prev-by-unbroken w (such x) p sound h = one-all sound none-all
@@ -59,7 +60,7 @@ prev-by-unbroken w no-such (such p) sound h = either (left-left-aside p)
     d = way (down right) (p .below) (p .left-part)
 
     either : (b : Bool)
-        → Unbroken ((if b then to-its-end (w ∷ []) d else record { ways = w ∷ []; answer = such (p .entry .key) }) .ways)
+        → Unbroken ((if b then to-its-end (w ∷ []) d else record { ways = w ∷ []; answer = such (passed-row p) }) .ways)
     either true = one-all sound (one-all (unbroken (down right) (p .below) (p .left-part) (h left)) none-all)
     either false = one-all sound none-all
 
@@ -72,7 +73,7 @@ module _ (m : ℕ) (t : Tree) (h : intact t ≡ true) where
   unfolding next
   next-ways k =
       let w : Way = way (passing-equal k) m t in
-      next-by-unbroken w (only-if (ltb k) (keyAt (w .end))) (last-such right-left-aside (w .passed)) (unbroken (passing-equal k) m t h)
+      next-by-unbroken w (end-if (ltb k) w) (last-such right-left-aside (w .passed)) (unbroken (passing-equal k) m t h)
       (last-such-one right-left-aside (passed-intact (passing-equal k) m t h))
 
   prev-ways : (k : ℕ) → Unbroken (prev m k t .ways)
@@ -80,7 +81,7 @@ module _ (m : ℕ) (t : Tree) (h : intact t ≡ true) where
   prev-ways k =
       let w : Way = way (following k) m t in
       let less : Step → Bool = λ s. ltb (s .entry .key) k in
-      prev-by-unbroken w (only-if (λ x. ltb x k) (keyAt (w .end))) (last-such less (w .passed)) (unbroken (following k) m t h)
+      prev-by-unbroken w (end-if (λ x. ltb x k) w) (last-such less (w .passed)) (unbroken (following k) m t h)
       (last-such-one less (passed-intact (following k) m t h))
 
   pub has-unbroken : (k : ℕ) → brokenIn (has m k t .ways) ≡ false
@@ -104,19 +105,19 @@ module _ (m : ℕ) (t : Tree) (h : intact t ≡ true) where
   unfolding gap
   gap-unbroken k = all-unbroken (either (has m k t .answer))
     where
-      either : (q : Perhaps ℕ) → Unbroken (gap-by k (prev m k t) (next m k t) q (has m k t .ways) .ways)
+      either : (q : Perhaps Found) → Unbroken (gap-by k (prev m k t) (next m k t) q (has m k t .ways) .ways)
       either (such x) = has-ways k
       either no-such = all-append (prev-ways k) (next-ways k)
 
-  pub adding-unbroken : (k : ℕ) → broken (adding m k t .rows-read) ≡ false
+  pub adding-unbroken : (e : Entry) → broken (adding m e t .rows-read) ≡ false
   unfolding adding
-  adding-unbroken k = either (ends-at k (way (following k) m t))
+  adding-unbroken e = either (ends-at (e .key) (way (following (e .key)) m t))
     where
       either : (b : Bool)
-          → let w : Way = way (following k) m t in let push : Way = way pushing (w .bits) (w .end) in
-          broken (adding-by k w push (joined w push) b .rows-read) ≡ false
-      either true = unbroken (following k) m t h
-      either false = joined-unbroken (following k) pushing m t h
+          → let w : Way = way (following (e .key)) m t in let push : Way = way pushing (w .bits) (w .end) in
+          broken (adding-by e w push (joined w push) b .rows-read) ≡ false
+      either true = unbroken (following (e .key)) m t h
+      either false = joined-unbroken (following (e .key)) pushing m t h
 
   pub erasing-unbroken : (k : ℕ) → broken (erasing m k t .rows-read) ≡ false
   unfolding erasing

@@ -6,7 +6,8 @@ use mathlib.Core.List.{List, [], _∷_, _++_, append-nil, append-assoc}
 use lib.Dec.{ltb, leb}
 use Rattle.ordered.specs.Such.{if_then_else_}
 use Rattle.ordered.specs.Word.{Side, left, right, bitOf, side}
-use Rattle.ordered.specs.Tree.{Tree, none, row, damaged, Entry, part, exists, listing, intact}
+use Rattle.ordered.specs.Dictionary.{Entry}
+use Rattle.ordered.specs.Tree.{Tree, none, row, damaged, part, exists, entries, intact}
 use Rattle.ordered.specs.Proper.{Proper}
 use Rattle.ordered.specs.Way.{Step, Way, Rule, Turn, stop, to, way, ending, passing, turning, broken, isDamaged, following, passing-equal, pushing, down, staying}
 use Rattle.ordered.specs.Grown.{linking, linked}
@@ -46,42 +47,42 @@ along f P ends goes (suc m) (row i e l r) = turned (f m e l r) refl (λ s. along
     turned (to s) says rest = goes m i e l r s says (rest s)
 
 -- the part that lies left of a way at a row where it turns to a side, and the part that lies right of it
-abbrev pub left-aside : Side → Tree → List ℕ
+abbrev pub left-aside : Side → Tree → List Entry
 left-aside left l = []
-left-aside right l = listing l
+left-aside right l = entries l
 
-abbrev pub right-aside : Side → Tree → List ℕ
-right-aside left r = listing r
+abbrev pub right-aside : Side → Tree → List Entry
+right-aside left r = entries r
 right-aside right r = []
 
--- the words that lie left of a way, and those that lie right of it
-unfoldable pub lower : List Step → List ℕ
+-- the entries that lie left of a way, and those that lie right of it
+unfoldable pub lower : List Step → List Entry
 lower [] = []
-lower (s ∷ ss) = s .entry .key ∷ (left-aside (s .turn) (s .left-part) ++ lower ss)
+lower (s ∷ ss) = s .entry ∷ (left-aside (s .turn) (s .left-part) ++ lower ss)
 
-unfoldable pub upper : List Step → List ℕ
+unfoldable pub upper : List Step → List Entry
 upper [] = []
 upper (s ∷ ss) = upper ss ++ right-aside (s .turn) (s .right-part)
 
--- what is put around the parts of a listing where a way turns
-module _ (key : ℕ) (aside : List ℕ) {xs : List ℕ} (a b c : List ℕ) (rest : xs ≡ a ++ (b ++ c)) where
-  around-left : key ∷ (xs ++ aside) ≡ (key ∷ a) ++ (b ++ (c ++ aside))
+-- what is put around the parts of a list of entries where a way turns
+module _ (e : Entry) (aside : List Entry) {xs : List Entry} (a b c : List Entry) (rest : xs ≡ a ++ (b ++ c)) where
+  around-left : e ∷ (xs ++ aside) ≡ (e ∷ a) ++ (b ++ (c ++ aside))
   around-left = rw rest (simp append-assoc)
 
-  around-right : key ∷ (aside ++ xs) ≡ (key ∷ (aside ++ a)) ++ (b ++ (c ++ []))
+  around-right : e ∷ (aside ++ xs) ≡ (e ∷ (aside ++ a)) ++ (b ++ (c ++ []))
   around-right = rw rest (simp (append-assoc, append-nil))
 
--- so a tree linked from the rows of a way lists what lies left of the way, what is linked where it ended, and what lies right
-pub linked-listing : (ss : List Step) (t : Tree) → listing (linked ss t) ≡ lower ss ++ (listing t ++ upper ss)
-unfolding listing lower upper linked
-linked-listing [] t = sym (append-nil (listing t))
-linked-listing (s ∷ ss) t = around (s .turn) (linked-listing ss t)
+-- so a tree linked from the rows of a way has the entries that lie left of the way of it, those linked where it ended, and those that lie right
+pub linked-entries : (ss : List Step) (t : Tree) → entries (linked ss t) ≡ lower ss ++ (entries t ++ upper ss)
+unfolding entries lower upper linked
+linked-entries [] t = sym (append-nil (entries t))
+linked-entries (s ∷ ss) t = around (s .turn) (linked-entries ss t)
   where
-    around : (turn : Side) → listing (linked ss t) ≡ lower ss ++ (listing t ++ upper ss)
-        → listing (linking (s .at) (s .entry) turn (s .left-part) (s .right-part) (linked ss t))
-        ≡ (s .entry .key ∷ (left-aside turn (s .left-part) ++ lower ss)) ++ (listing t ++ (upper ss ++ right-aside turn (s .right-part)))
-    around left rest = around-left (s .entry .key) (listing (s .right-part)) (lower ss) (listing t) (upper ss) rest
-    around right rest = around-right (s .entry .key) (listing (s .left-part)) (lower ss) (listing t) (upper ss) rest
+    around : (turn : Side) → entries (linked ss t) ≡ lower ss ++ (entries t ++ upper ss)
+        → entries (linking (s .at) (s .entry) turn (s .left-part) (s .right-part) (linked ss t))
+        ≡ (s .entry ∷ (left-aside turn (s .left-part) ++ lower ss)) ++ (entries t ++ (upper ss ++ right-aside turn (s .right-part)))
+    around left rest = around-left (s .entry) (entries (s .right-part)) (lower ss) (entries t) (upper ss) rest
+    around right rest = around-right (s .entry) (entries (s .left-part)) (lower ss) (entries t) (upper ss) rest
 
 -- the rows of a way, linked again with the part at which it ended, are the tree
 pub linked-again : (f : Rule) (m : ℕ) (t : Tree) → linked (way f m t .passed) (way f m t .end) ≡ t
@@ -94,12 +95,12 @@ linked-again f =
     own i e left l r = refl
     own i e right l r = refl
 
--- so every way parts the listing of its tree in three
+-- so every way parts the entries of its tree in three
 pub parted : (f : Rule) (m : ℕ) (t : Tree)
-    → let w : Way = way f m t in listing t ≡ lower (w .passed) ++ (listing (w .end) ++ upper (w .passed))
+    → let w : Way = way f m t in entries t ≡ lower (w .passed) ++ (entries (w .end) ++ upper (w .passed))
 parted f m t =
     let w : Way = way f m t in
-    sym (ap listing (linked-again f m t)) ∙ linked-listing (w .passed) (w .end)
+    sym (ap entries (linked-again f m t)) ∙ linked-entries (w .passed) (w .end)
 
 -- the parts on both sides of a row that is passed are proper
 abbrev pub Proper-step : Step → Type 0

@@ -3,24 +3,21 @@ use Prim.Native.Nat.{ℕ, zero, suc}
 use mathlib.Core.Bool.{Bool, true, false}
 use mathlib.Core.List.{List, [], _∷_, _++_}
 use lib.Dec.{eqb}
-use Rattle.ordered.specs.Such.{if_then_else_, Perhaps, no-such, such, only-if, last-such, anything}
+use Rattle.ordered.specs.Such.{if_then_else_, Perhaps, no-such, such, last-such, anything, isThere}
 use Rattle.ordered.specs.Word.{Side, left}
-use Rattle.ordered.specs.Tree.{Tree, none, row, damaged, Entry}
+use Rattle.ordered.specs.Dictionary.{Entry, no-entry}
+use Rattle.ordered.specs.Tree.{Tree, none, row, damaged}
 use Rattle.ordered.specs.Way.{Way, Step, way, joined, following, pushing, down}
-use Rattle.ordered.specs.Reading.{keyAt}
+use Rattle.ordered.specs.Reading.{end-if}
 
 -- a row that takes an entry
 pub record Take : Type 0 where
   pub at : ℕ
   pub entry : Entry
 
-abbrev pub isThere : Perhaps ℕ → Bool
-isThere no-such = false
-isThere (such x) = true
-
 -- the way of k ends at k
 abbrev pub ends-at : ℕ → Way → Bool
-ends-at k w = isThere (only-if (eqb k) (keyAt (w .end)))
+ends-at k w = isThere (end-if (eqb k) w)
 
 -- the last row that a way passes: the row above its end, and the side to which it turned there, where the end is linked
 abbrev pub above-end : Way → Perhaps Step
@@ -48,23 +45,22 @@ pub record Adding : Type 0 where
   pub new-entry : Entry
   pub hook : Perhaps Step
 
-abbrev pub adding-by : ℕ → Way → Way → Way → Bool → Adding
-adding-by k w push whole true =
-    record { rows-read = w; present = true; takes = []; new-entry = record { key = k }; hook = no-such }
-adding-by k w push whole false =
+abbrev pub adding-by : Entry → Way → Way → Way → Bool → Adding
+adding-by e w push whole true = record { rows-read = w; present = true; takes = []; new-entry = e; hook = no-such }
+adding-by e w push whole false =
     record {
       rows-read = whole;
       present = false;
-      takes = pushed (record { key = k }) (push .passed);
-      new-entry = left-over (record { key = k }) (push .passed);
+      takes = pushed e (push .passed);
+      new-entry = left-over e (push .passed);
       hook = above-end whole;
     }
 
-unfoldable pub adding : ℕ → ℕ → Tree → Adding
-adding m k t =
-    let w : Way = way (following k) m t in
+unfoldable pub adding : ℕ → Entry → Tree → Adding
+adding m e t =
+    let w : Way = way (following (e .key)) m t in
     let push : Way = way pushing (w .bits) (w .end) in
-    adding-by k w push (joined w push) (ends-at k w)
+    adding-by e w push (joined w push) (ends-at (e .key) w)
 
 -- an erase: each row of the stretch takes the entry of the row below it, the last one that of the hole
 unfoldable pub raised : List Step → Entry → List Take
@@ -89,9 +85,9 @@ numberAt (row i e l r) = i
 numberAt damaged = 0
 
 abbrev pub entryAt : Tree → Entry
-entryAt none = record { key = 0 }
+entryAt none = no-entry
 entryAt (row i e l r) = e
-entryAt damaged = record { key = 0 }
+entryAt damaged = no-entry
 
 abbrev pub erasing-by : Way → Way → Way → Bool → Erasing
 erasing-by w stretch whole false =

@@ -1,10 +1,27 @@
--- A set is a strictly increasing list of words; and the ordered dictionary of source 004 over it, its operations in its order.
--- proofs/Dictionary.antt says each of them again in the source's words, so that nobody has to trust the recursion.
+-- A set is a list of entries whose words strictly increase; and the ordered dictionary of source 004 over it, its operations in its order.
+-- proofs/Dictionary.antt says each of them again in the source's words, about the words of the set, so that nobody has to trust the recursion.
 use Prim.Native.Nat.{ℕ, _<_}
-use mathlib.Core.Bool.{Bool, true, false, _||_}
+use mathlib.Core.Bool.{Bool, true, false}
 use mathlib.Core.List.{List, [], _∷_}
 use lib.Dec.{ltb, eqb}
-use Rattle.ordered.specs.Such.{if_then_else_, Perhaps, first-such, last-such, anything}
+use Rattle.ordered.specs.Such.{if_then_else_, Perhaps, its, first-such, last-such, anything}
+
+-- what the set keeps of a word, and what a push or an erase moves from row to row
+pub record Entry : Type 0 where
+  pub key : ℕ
+
+-- where there is no entry, this one stands for it
+abbrev pub no-entry : Entry
+no-entry = record { key = 0 }
+
+-- the words of a list of entries
+abbrev pub words : List Entry → List ℕ
+words [] = []
+words (e ∷ s) = e .key ∷ words s
+
+-- the word of an entry that was found
+abbrev pub wordOf : Perhaps Entry → Perhaps ℕ
+wordOf = its (λ e. e .key)
 
 -- every word of the list is greater than x
 pub data Above (x : ℕ) : List ℕ → Type 0 where
@@ -15,42 +32,41 @@ pub data Increasing : List ℕ → Type 0 where
   none-increasing : Increasing []
   one-increasing : {x : ℕ} {xs : List ℕ} → Above x xs → Increasing xs → Increasing (x ∷ xs)
 
--- "insert(x), which adds x to S"
-unfoldable pub insert : ℕ → List ℕ → List ℕ
-insert x [] = x ∷ []
-insert x (y ∷ ys) =
-    if ltb x y then x ∷ y ∷ ys
-    else if eqb x y then y ∷ ys
-    else y ∷ insert x ys
+-- "insert(x), which adds x to S": here with its entry, which takes the place of an entry for the same word
+unfoldable pub insert : Entry → List Entry → List Entry
+insert e [] = e ∷ []
+insert e (f ∷ s) =
+    if ltb (e .key) (f .key) then e ∷ f ∷ s
+    else if eqb (e .key) (f .key) then e ∷ s
+    else f ∷ insert e s
 
 -- "is-empty(), which returns whether S = ∅"
-unfoldable pub is-empty : List ℕ → Bool
+unfoldable pub is-empty : List Entry → Bool
 is-empty [] = true
-is-empty (x ∷ xs) = false
+is-empty (e ∷ s) = false
 
--- "lookup(x), which returns whether x ∈ S"
-unfoldable pub lookup : ℕ → List ℕ → Bool
-lookup x [] = false
-lookup x (y ∷ ys) = eqb x y || lookup x ys
+-- "lookup(x), which returns whether x ∈ S": here with its entry
+unfoldable pub lookup : ℕ → List Entry → Perhaps Entry
+lookup x s = first-such (λ e. eqb x (e .key)) s
 
 -- "delete(x), which removes x from S"
-unfoldable pub delete : ℕ → List ℕ → List ℕ
+unfoldable pub delete : ℕ → List Entry → List Entry
 delete x [] = []
-delete x (y ∷ ys) =
-    if eqb x y then delete x ys
-    else y ∷ delete x ys
+delete x (e ∷ s) =
+    if eqb x (e .key) then delete x s
+    else e ∷ delete x s
 
 -- "max() / min(), which returns the maximum or minimum element of S"
-unfoldable pub max : List ℕ → Perhaps ℕ
+unfoldable pub max : List Entry → Perhaps Entry
 max s = last-such anything s
 
-unfoldable pub min : List ℕ → Perhaps ℕ
+unfoldable pub min : List Entry → Perhaps Entry
 min s = first-such anything s
 
 -- "successor(x), which returns the smallest element of S greater than x"
-unfoldable pub successor : ℕ → List ℕ → Perhaps ℕ
-successor x s = first-such (λ y. ltb x y) s
+unfoldable pub successor : ℕ → List Entry → Perhaps Entry
+successor x s = first-such (λ e. ltb x (e .key)) s
 
 -- "predecessor(x), which returns the largest element of S smaller than x"
-unfoldable pub predecessor : ℕ → List ℕ → Perhaps ℕ
-predecessor x s = last-such (λ y. ltb y x) s
+unfoldable pub predecessor : ℕ → List Entry → Perhaps Entry
+predecessor x s = last-such (λ e. ltb (e .key) x) s

@@ -4,7 +4,8 @@ use Prim.Native.Nat.{ℕ}
 use mathlib.Core.List.{List, [], _∷_}
 use Rattle.ordered.specs.Such.{if_then_else_}
 use Rattle.ordered.specs.Word.{Side, left, right}
-use Rattle.ordered.specs.Tree.{Tree, none, row, Entry}
+use Rattle.ordered.specs.Dictionary.{Entry}
+use Rattle.ordered.specs.Tree.{Tree, none, row}
 use Rattle.ordered.specs.Way.{Way, Step, way, following, pushing, down}
 use Rattle.ordered.specs.Change.{ends-at, left-over, entryAt}
 
@@ -48,12 +49,12 @@ popped-tree m t =
     let stretch : Way = way (down left) m t in
     linked (lifted (stretch .passed) (entryAt (stretch .end))) none
 
--- the tree after `add` k, where n is the number of the new row, if there is one
-unfoldable pub grown : (n m k : ℕ) → Tree → Tree
-grown n m k t =
-    let w : Way = way (following k) m t in
-    if ends-at k w then t
-    else linked (w .passed) (pushed-tree n (w .bits) (record { key = k }) (w .end))
+-- the tree after `add` of the entry e, where n is the number of the new row, if there is one
+unfoldable pub grown : (n m : ℕ) → Entry → Tree → Tree
+grown n m e t =
+    let w : Way = way (following (e .key)) m t in
+    if ends-at (e .key) w then t
+    else linked (w .passed) (pushed-tree n (w .bits) e (w .end))
 
 -- the tree after `del` k
 unfoldable pub shrunk : (m k : ℕ) → Tree → Tree

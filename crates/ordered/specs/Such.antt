@@ -32,3 +32,12 @@ module _ {A : Type 0} where
 
   abbrev pub anything : A → Bool
   anything x = true
+
+  abbrev pub isThere : Perhaps A → Bool
+  isThere no-such = false
+  isThere (such x) = true
+
+-- f of it, if there is such a thing
+abbrev pub its : {A B : Type 0} → (A → B) → Perhaps A → Perhaps B
+its f no-such = no-such
+its f (such x) = such (f x)

@@ -5,10 +5,7 @@ use mathlib.Core.Bool.{Bool, true, false, _&&_}
 use mathlib.Core.List.{List, [], _∷_, _++_}
 use Rattle.ordered.specs.Such.{if_then_else_}
 use Rattle.ordered.specs.Word.{Side, left, right, side, isSide}
-
--- what a push or an erase moves from row to row
-pub record Entry : Type 0 where
-  pub key : ℕ
+use Rattle.ordered.specs.Dictionary.{Entry, words}
 
 -- none: an empty link; row: a row with its number, its entry, its left part and its right part; damaged: what no way may read
 pub data Tree : Type 0 where
@@ -28,10 +25,13 @@ exists (row i e l r) = true
 exists damaged = true
 
 -- "The listing of a row's part is its key, then its left part, then its right part"
-unfoldable pub listing : Tree → List ℕ
-listing none = []
-listing (row i e l r) = e .key ∷ (listing l ++ listing r)
-listing damaged = []
+unfoldable pub entries : Tree → List Entry
+entries none = []
+entries (row i e l r) = e ∷ (entries l ++ entries r)
+entries damaged = []
+
+abbrev pub listing : Tree → List ℕ
+listing t = words (entries t)
 
 unfoldable pub size : Tree → ℕ
 size none = 0
@@ -50,17 +50,17 @@ unnumbered none = none
 unnumbered (row i e l r) = row 0 e (unnumbered l) (unnumbered r)
 unnumbered damaged = damaged
 
--- the words that go to side s from a row with m + 1 bits left
-unfoldable pub going : Side → ℕ → List ℕ → List ℕ
+-- the entries whose words go to side s from a row with m + 1 bits left
+unfoldable pub going : Side → ℕ → List Entry → List Entry
 going s m [] = []
-going s m (x ∷ xs) =
-    if isSide s (side m x) then x ∷ going s m xs
-    else going s m xs
+going s m (e ∷ es) =
+    if isSide s (side m (e .key)) then e ∷ going s m es
+    else going s m es
 
--- the PreTree of the increasing words of a list that agree in all but their last m bits: "its least word at the root, the rest parted by
+-- the PreTree of a set whose words agree in all but their last m bits: "its least word at the root, the rest parted by
 -- the next bit"; with no bit left there is no rest
-unfoldable pub treeOf : ℕ → List ℕ → Tree
+unfoldable pub treeOf : ℕ → List Entry → Tree
 treeOf zero [] = none
-treeOf zero (x ∷ xs) = row 0 (record { key = x }) none none
+treeOf zero (e ∷ es) = row 0 e none none
 treeOf (suc m) [] = none
-treeOf (suc m) (x ∷ xs) = row 0 (record { key = x }) (treeOf m (going left m xs)) (treeOf m (going right m xs))
+treeOf (suc m) (e ∷ es) = row 0 e (treeOf m (going left m es)) (treeOf m (going right m es))

@@ -6,7 +6,8 @@ use lib.Dec.{ltb, leb}
 use lib.ListN.{length}
 use Rattle.ordered.specs.Such.{if_then_else_}
 use Rattle.ordered.specs.Word.{Side, other, side}
-use Rattle.ordered.specs.Tree.{Tree, none, row, damaged, Entry, part, exists}
+use Rattle.ordered.specs.Dictionary.{Entry}
+use Rattle.ordered.specs.Tree.{Tree, none, row, damaged, part, exists}
 
 -- a row that a way passes, the side to which it turns there, and the bits left below
 pub record Step : Type 0 where

@@ -9,13 +9,14 @@ use lib.Dec.{ltb, eqb}
 use lib.ListN.{length}
 use lib.Pow.{shl-shr}
 use borrow.Author.Tests.{lt-ltb, eq-eqb, ne-eqb}
-use Rattle.ordered.specs.Such.{if_then_else_, such, no-such, last-such, anything}
+use Rattle.ordered.specs.Such.{isThere, if_then_else_, such, no-such, last-such, anything}
 use Rattle.ordered.specs.Word.{Side, sideOf}
 use Rattle.ordered.specs.Tree.{Tree, none, damaged}
 use Rattle.ordered.specs.Way.{Way, way, joined, broken, isDamaged, endRows, pushing}
 use Rattle.ordered.specs.Way as Ways
-use Rattle.ordered.specs.Change.{isThere, ends-at, adding, adding-by}
+use Rattle.ordered.specs.Change.{ends-at, adding, adding-by}
 use Rattle.ordered.proofs.Parts.{All, none-all, all-append, If-such, last-such-one}
+use Rattle.ordered.specs.Reading.{Found}
 use Rattle.pretree.specs.declared.Header.{Header}
 use Rattle.pretree.specs.declared.Entry.{Entry}
 use Rattle.pretree.specs.declared.Row as Rows
@@ -24,7 +25,7 @@ use Rattle.pretree.specs.declared.Answer.the-variants as Answers
 use Rattle.pretree.specs.declared.leg.End.the-variants.{None, Row, Damage}
 use Rattle.pretree.specs.declared.leg.Leg.{Leg}
 use Rattle.pretree.specs.declared.seek.Seek.{Seek}
-use Rattle.pretree.specs.Table.{capacity, rowAt, withRow, hooked}
+use Rattle.pretree.specs.Table.{fromCode, capacity, rowAt, withRow, hooked}
 use Rattle.pretree.specs.Unfold.{shown}
 use Rattle.pretree.specs.Reply.{wrong-header, too-wide, refused, answered}
 use Rattle.pretree.specs.Walk.{Walk, Stage, On, AtNone, AtRow, AtDamage, started, isOn, endRead, rowsRead, ended, treeAt, to-come, stepAt, remembered, seeking, Goes, Walked}
@@ -58,31 +59,34 @@ module _ (count : ℕ) (l : Leg) (p : Walk) (on : OnLeg count l p) where
   end-side = rw (end-bits, on .stands .path, shl-shr (p .path) (p .bits))
 
 -- where the word is not there: the writes one after the other, and the outcome
-module _ (h : Header) (table : List ℕ) (k from bits end above : ℕ) (s : Side) where
+module _ (h : Header) (table : List ℕ) (e : Entry) (from bits end above : ℕ) (s : Side) where
   pub writes-grow : {entry : Entry} {pushed linked after : List ℕ}
-      → entry ≡ left-from (rowAt table) end (bits - end) from (record { key = k })
-      → pushed ≡ taking (takes-from (rowAt table) end (bits - end) from (record { key = k })) table
+      → entry ≡ left-from (rowAt table) end (bits - end) from e
+      → pushed ≡ taking (takes-from (rowAt table) end (bits - end) from e) table
       → linked ≡ hooked (ltb end (h .width)) above s (h .count) pushed
       → after ≡ withRow (h .count) (record { entry = entry; left = 0; right = 0 }) linked
-      → after ≡ grownAt h table k from bits end above s
+      → after ≡ grownAt h table e from bits end above s
   unfolding grownAt
-  writes-grow e t l a = rw (a, l, t, e)
+  writes-grow x t l a = rw (a, l, t, x)
 
-  pub on-full : h .count ≡ capacity table → grownOutcome h table k from bits end above s ≡ record { reply = refused h Full; table = table }
+  pub on-full : h .count ≡ capacity table → grownOutcome h table e from bits end above s ≡ record { reply = refused h Full; table = table }
   unfolding grownOutcome
   on-full full = rw (eq-eqb _ _ full)
 
   pub on-done : (h .count ≡ capacity table → ⊥)
-      → grownOutcome h table k from bits end above s
+      → grownOutcome h table e from bits end above s
       ≡ record {
         reply = answered (record { width = h .width; count = suc (h .count) }) Done (h .width - end);
-        table = grownAt h table k from bits end above s;
+        table = grownAt h table e from bits end above s;
       }
   unfolding grownOutcome
   on-done room = rw (ne-eqb _ _ room)
 
-module _ (h : Header) (table : List ℕ) (k : ℕ) (w : Walk) (fine : wrong-header h table ≡ false)
-    (gone : Walked (rowAt table) (seeking k k) (h .width) (h .count) (shown h table) w) where
+module _ (h : Header) (table : List ℕ) (e : Entry) (w : Walk) (fine : wrong-header h table ≡ false)
+    (gone : Walked (rowAt table) (seeking (e .key) (e .key)) (h .width) (h .count) (shown h table) w) where
+  abbrev k : ℕ
+  k = e .key
+
   abbrev rows : ℕ → Rows.Row
   rows = rowAt table
 
@@ -136,34 +140,34 @@ module _ (h : Header) (table : List ℕ) (k : ℕ) (w : Walk) (fine : wrong-head
       = subst (λ (s : Stage). Goes rows (h .width) first w (to-come rows (seeking k k) w s)) at (gone .walking .goes) in
       from-end (λ (v : Way). endRows (v .end) ≡ 0) (treeAt rows w) (g .end) (g .bits) (rw bits (no-end-row rows (w .count) m (w .path) (w .low) (w .row)))
 
-  pub there : ends-at k first ≡ endsAt k (w .key) (w .stage)
+  pub there : ends-at k first ≡ endsAt k (w .entry .key) (w .stage)
   there = rw (all-gone rows _ _ _ _ w gone .end) (by-stage (w .stage))
     where
-      by-key : (b : Bool) → isThere (if b then such (w .key) else no-such) ≡ b
+      by-key : (b : Bool) → isThere {A = Found} (if b then such (record { entry = w .entry; bits = first .bits }) else no-such) ≡ b
       by-key true = refl
       by-key false = refl
 
-      by-stage : (stage : Stage) → ends-at k (Ways.ending 0 (endPart rows _ _ _ _ w gone stage)) ≡ endsAt k (w .key) stage
+      by-stage : (stage : Stage) → ends-at k (Ways.ending (first .bits) (endPart rows _ _ _ _ w gone stage)) ≡ endsAt k (w .entry .key) stage
       by-stage On = refl
       by-stage AtNone = refl
-      by-stage AtRow = by-key (eqb k (w .key))
+      by-stage AtRow = by-key (eqb k (w .entry .key))
       by-stage AtDamage = refl
 
   -- a way that ends at the word is not broken
-  whole-there : endsAt k (w .key) (w .stage) ≡ true → broken first ≡ false
+  whole-there : endsAt k (w .entry .key) (w .stage) ≡ true → broken first ≡ false
   unfolding broken
-  whole-there e = rw (all-gone rows _ _ _ _ w gone .end) (by-stage (w .stage) e)
+  whole-there is = rw (all-gone rows _ _ _ _ w gone .end) (by-stage (w .stage) is)
     where
-      by-stage : (stage : Stage) → endsAt k (w .key) stage ≡ true → isDamaged (endPart rows _ _ _ _ w gone stage) ≡ false
+      by-stage : (stage : Stage) → endsAt k (w .entry .key) stage ≡ true → isDamaged (endPart rows _ _ _ _ w gone stage) ≡ false
       by-stage On e = refl
       by-stage AtNone e = refl
       by-stage AtRow e = refl
       by-stage AtDamage e = sym e
 
-  present-outcome : too-wide h k ≡ false → endsAt k (w .key) (w .stage) ≡ true
-      → addOutcome h table k ≡ record { reply = answered h AlreadyThere (rowsRead w (h .width)); table = table }
+  present-outcome : too-wide h k ≡ false → endsAt k (w .entry .key) (w .stage) ≡ true
+      → addOutcome h table (fromCode e) ≡ record { reply = answered h AlreadyThere (rowsRead w (h .width)); table = table }
   unfolding addOutcome adding
-  present-outcome small e = rw (fine, small, following-is k, there, e, whole-there e, rows-gone rows _ _ _ _ w gone)
+  present-outcome small is = rw (fine, small, following-is k, there, is, whole-there is, rows-gone rows _ _ _ _ w gone)
 
   -- the walk p went on to the end of the push
   module _ (p : Walk) (goes : GoesOn rows pushing (h .count) (resumed w) p) (off : isOn (p .stage) ≡ false) where
@@ -199,13 +203,13 @@ module _ (h : Header) (table : List ℕ) (k : ℕ) (w : Walk) (fine : wrong-head
               lt-of-lt-of-le (rw (all-told .above, lt-ltb (p .bits) (h .width) some) at last) (right .has-room);
         }
 
-    grown-is : grown (h .count) (adding-by k first push whole false) table
-        ≡ grownAt h table k (w .row) (w .bits) (p .bits) (p .above) (sideOf (p .path % 2))
+    grown-is : grown (h .count) (adding-by (fromCode e) first push whole false) table
+        ≡ grownAt h table e (w .row) (w .bits) (p .bits) (p .above) (sideOf (p .path % 2))
     unfolding grown grownAt joined
     grown-is =
         rw (
-          known .by-numbers .takes (record { key = k }),
-          known .by-numbers .left-key (record { key = k }),
+          known .by-numbers .takes e,
+          known .by-numbers .left-key e,
           end-is,
           passed-is,
           all-told .above,
@@ -228,13 +232,13 @@ module _ (h : Header) (table : List ℕ) (k : ℕ) (w : Walk) (fine : wrong-head
         let no-row : endRows (push .end) ≡ 0 = ends-free m at bits in
         omega arith
 
-    module _ (small : too-wide h k ≡ false) (absent : endsAt k (w .key) (w .stage) ≡ false) where
-      pub damage-outcome : p .stage ≡ AtDamage → addOutcome h table k ≡ record { reply = refused h Answers.Damage; table = table }
+    module _ (small : too-wide h k ≡ false) (absent : endsAt k (w .entry .key) (w .stage) ≡ false) where
+      pub damage-outcome : p .stage ≡ AtDamage → addOutcome h table (fromCode e) ≡ record { reply = refused h Answers.Damage; table = table }
       unfolding addOutcome adding
       damage-outcome ends = rw (fine, small, following-is k, there, absent, whole-broken, ends)
 
       free-outcome : p .stage ≡ AtNone
-          → addOutcome h table k ≡ grownOutcome h table k (w .row) (w .bits) (p .bits) (p .above) (sideOf (p .path % 2))
+          → addOutcome h table (fromCode e) ≡ grownOutcome h table e (w .row) (w .bits) (p .bits) (p .above) (sideOf (p .path % 2))
       unfolding addOutcome adding grownOutcome
       free-outcome ends =
           rw (fine, small, following-is k, there, absent, whole-broken, whole-rows, grown-is, ends, add-zero (h .width - p .bits))
@@ -244,21 +248,24 @@ module _ (h : Header) (table : List ℕ) (k : ℕ) (w : Walk) (fine : wrong-head
       pub growable : Growable h table from bits (endBits l) (l .above)
       growable = rw (row, left, end-bits (h .count) l p on, on .above) grows
 
-      pub grown-outcome : too-wide h k ≡ false → endsAt k (w .key) (w .stage) ≡ false → p .stage ≡ AtNone
-          → addOutcome h table k ≡ grownOutcome h table k from bits (endBits l) (l .above) (endSide l)
+      pub grown-outcome : too-wide h k ≡ false → endsAt k (w .entry .key) (w .stage) ≡ false → p .stage ≡ AtNone
+          → addOutcome h table (fromCode e) ≡ grownOutcome h table e from bits (endBits l) (l .above) (endSide l)
       grown-outcome small absent ends =
           rw (row, left, end-side (h .count) l p on, end-bits (h .count) l p on, on .above) (free-outcome small absent ends)
 
   -- where the way ended at no row, the walk stays as it is
   stays : (stage : Stage) → w .stage ≡ stage → again stage ≡ stage → GoesOn rows pushing (h .count) (resumed w) w
   stays stage at same width v g =
-      let is : resumed w ≡ w = ap (λ (s : Stage). ended w s (w .key)) (ap again at ∙ same ∙ sym at) in
+      let is : resumed w ≡ w = ap (λ (s : Stage). ended w s (w .entry)) (ap again at ∙ same ∙ sym at) in
       subst (λ (u : Walk). Going rows pushing width (h .count) v u) is g
 
 -- the empty set: the root is the place of the new row
-module _ (h : Header) (table : List ℕ) (k : ℕ) (fine : wrong-header h table ≡ false) (empty : h .count ≡ 0) where
-  root-walked : Walked (rowAt table) (seeking k k) (h .width) (h .count) (shown h table) (started h)
-  root-walked = record { walking = begins-root h table (seeking k k); ended = rw (eq-eqb (h .count) 0 empty) }
+module _ (h : Header) (table : List ℕ) (e : Entry) (fine : wrong-header h table ≡ false) (empty : h .count ≡ 0) where
+  abbrev word : ℕ
+  word = e .key
+
+  root-walked : Walked (rowAt table) (seeking word word) (h .width) (h .count) (shown h table) (started h)
+  root-walked = record { walking = begins-root h table (seeking word word); ended = rw (eq-eqb (h .count) 0 empty) }
 
   at-root : started h .stage ≡ AtNone
   at-root = rw (eq-eqb (h .count) 0 empty)
@@ -272,63 +279,66 @@ module _ (h : Header) (table : List ℕ) (k : ℕ) (fine : wrong-header h table 
 
   pub root-growable : Growable h table 0 (h .width) (endBits rootLeg) 0
   root-growable =
-      growable h table k (started h) fine root-walked (started h) (stays h table k (started h) fine root-walked AtNone at-root refl) (root-walked .ended)
+      growable h table e (started h) fine root-walked (started h) (stays h table e (started h) fine root-walked AtNone at-root refl) (root-walked .ended)
       0 (h .width) rootLeg refl refl root-on
 
-  pub root-outcome : too-wide h k ≡ false → addOutcome h table k ≡ grownOutcome h table k 0 (h .width) (endBits rootLeg) 0 (endSide rootLeg)
+  pub root-outcome : too-wide h word ≡ false → addOutcome h table (fromCode e) ≡ grownOutcome h table e 0 (h .width) (endBits rootLeg) 0 (endSide rootLeg)
   root-outcome small =
-      grown-outcome h table k (started h) fine root-walked (started h) (stays h table k (started h) fine root-walked AtNone at-root refl) (root-walked .ended)
+      grown-outcome h table e (started h) fine root-walked (started h) (stays h table e (started h) fine root-walked AtNone at-root refl) (root-walked .ended)
       0 (h .width) rootLeg refl refl root-on small (rw at-root) at-root
 
 -- where the seek of the word ended
-module _ (h : Header) (table : List ℕ) (k : ℕ) (fine : wrong-header h table ≡ false) (small : too-wide h k ≡ false) (s : Seek) where
+module _ (h : Header) (table : List ℕ) (e : Entry) (fine : wrong-header h table ≡ false) (small : too-wide h (e .key) ≡ false) (s : Seek) where
+  abbrev sought-word : ℕ
+  sought-word = e .key
+
   abbrev rows-there : ℕ → Rows.Row
   rows-there = rowAt table
 
-  module _ (g : SeekEnds rows-there h (shown h table) k s None) where
+  module _ (g : SeekEnds rows-there h (shown h table) sought-word s None) where
     abbrev w : Walk
     w = g .walk
 
     abbrev linkLeg : Leg
-    linkLeg = record { at = placeOf s k; above = s .above }
+    linkLeg = record { at = placeOf s sought-word; above = s .above }
 
     link-on : OnLeg (h .count) linkLeg w
     link-on =
         record {
-          stands = Sought.place-stands table h k fine small s None g;
+          stands = Sought.place-stands table h sought-word fine small s None g;
           above = g .above;
           same-count = g .walked .walking .same-count;
         }
 
     pub link-growable : Growable h table (s .row) (bitsLeft (s .mask)) (endBits linkLeg) (s .above)
     link-growable =
-        growable h table k w fine (g .walked) w (stays h table k w fine (g .walked) AtNone (g .ends) refl) (g .walked .ended) (s .row) (bitsLeft (s .mask)) linkLeg
-        (g .row) (Sought.bits-are table h k fine small s None g) link-on
+        growable h table e w fine (g .walked) w (stays h table e w fine (g .walked) AtNone (g .ends) refl) (g .walked .ended) (s .row) (bitsLeft (s .mask)) linkLeg
+        (g .row) (Sought.bits-are table h sought-word fine small s None g) link-on
 
-    pub link-outcome : addOutcome h table k ≡ grownOutcome h table k (s .row) (bitsLeft (s .mask)) (endBits linkLeg) (s .above) (endSide linkLeg)
+    pub link-outcome : addOutcome h table (fromCode e) ≡ grownOutcome h table e (s .row) (bitsLeft (s .mask)) (endBits linkLeg) (s .above) (endSide linkLeg)
     link-outcome =
-        grown-outcome h table k w fine (g .walked) w (stays h table k w fine (g .walked) AtNone (g .ends) refl) (g .walked .ended) (s .row) (bitsLeft (s .mask))
-        linkLeg (g .row) (Sought.bits-are table h k fine small s None g) link-on small (ap (endsAt k (w .key)) (g .ends)) (g .ends)
+        grown-outcome h table e w fine (g .walked) w (stays h table e w fine (g .walked) AtNone (g .ends) refl) (g .walked .ended) (s .row) (bitsLeft (s .mask))
+        linkLeg (g .row) (Sought.bits-are table h sought-word fine small s None g) link-on small (ap (endsAt sought-word (w .entry .key)) (g .ends)) (g .ends)
 
-  pub broken-outcome : SeekEnds rows-there h (shown h table) k s Damage → addOutcome h table k ≡ record { reply = refused h Answers.Damage; table = table }
+  pub broken-outcome : SeekEnds rows-there h (shown h table) sought-word s Damage → addOutcome h table (fromCode e) ≡ record { reply = refused h Answers.Damage; table = table }
   broken-outcome g =
       let v : Walk = g .walk in
-      damage-outcome h table k v fine (g .walked) v (stays h table k v fine (g .walked) AtDamage (g .ends) refl) (g .walked .ended) small (ap (endsAt k (v .key)) (g .ends)) (g .ends)
+      damage-outcome h table e v fine (g .walked) v (stays h table e v fine (g .walked) AtDamage (g .ends) refl) (g .walked .ended) small (ap (endsAt sought-word (v .entry .key)) (g .ends)) (g .ends)
 
-  module _ (r : Rows.Row) (g : SeekEnds rows-there h (shown h table) k s (Row r)) where
-    pub there-outcome : r .entry .key ≡ k
-        → addOutcome h table k ≡ record { reply = answered h AlreadyThere (h .width - bitsLeft (s .mask) + 1); table = table }
+  module _ (r : Rows.Row) (g : SeekEnds rows-there h (shown h table) sought-word s (Row r)) where
+    pub there-outcome : r .entry .key ≡ sought-word
+        → addOutcome h table (fromCode e) ≡ record { reply = answered h AlreadyThere (h .width - bitsLeft (s .mask) + 1); table = table }
     there-outcome same =
         let v : Walk = g .walk in
-        let at-word : endsAt k (v .key) (v .stage) ≡ true = rw (g .ends .0, g .ends .2, eq-eqb k (r .entry .key) (sym same)) in
-        rw (present-outcome h table k v fine (g .walked) small at-word, Sought.bits-are table h k fine small s (Row r) g, g .ends .0)
+        let at-word : endsAt sought-word (v .entry .key) (v .stage) ≡ true = rw (g .ends .0, g .ends .2, eq-eqb sought-word (r .entry .key) (sym same)) in
+        rw (present-outcome h table e v fine (g .walked) small at-word, Sought.bits-are table h sought-word fine small s (Row r) g, g .ends .0)
 
-    pub displaces : (r .entry .key ≡ k → ⊥) → Displaces h table k (placeOf s k) r
+    pub displaces : (r .entry .key ≡ sought-word → ⊥) → Displaces h table sought-word (placeOf s sought-word) r
     displaces another =
         record {
           walk = g .walk;
           walked = g .walked;
-          stands = Sought.place-stands table h k fine small s (Row r) g;
+          stands = Sought.place-stands table h sought-word fine small s (Row r) g;
           path = g .path;
           ends = g .ends;
           another = another;

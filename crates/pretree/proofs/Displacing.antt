@@ -9,6 +9,7 @@ use Rattle.ordered.specs.Word.{sideOf}
 use Rattle.ordered.specs.Way.{pushing, to}
 use Rattle.ordered.proofs.Ways.{and-true}
 use Rattle.ordered.proofs.Bits.{whole-path}
+use Rattle.pretree.specs.declared.Entry.{Entry}
 use Rattle.pretree.specs.declared.Header.{Header}
 use Rattle.pretree.specs.declared.Row as Rows
 use Rattle.pretree.specs.declared.Answer.the-variants as Answers
@@ -16,7 +17,7 @@ use Rattle.pretree.specs.declared.leg.End.{End}
 use Rattle.pretree.specs.declared.leg.End.the-variants.{None, Row, Damage}
 use Rattle.pretree.specs.declared.leg.Place.{Place}
 use Rattle.pretree.specs.declared.leg.Leg.{Leg}
-use Rattle.pretree.specs.Table.{rowAt}
+use Rattle.pretree.specs.Table.{fromCode, rowAt}
 use Rattle.pretree.specs.Reply.{wrong-header, too-wide, refused}
 use Rattle.pretree.specs.Walk.{Walk, AtNone, AtRow, AtDamage, stageAt, isOn, holds, Placed}
 use Rattle.pretree.specs.Resume.{endsAt, again, resumed}
@@ -28,8 +29,11 @@ use Rattle.pretree.proofs.Places.{inner, bits-there}
 use Rattle.pretree.proofs.Legs.{legPast, goes-past, own-turn, push-ends}
 use Rattle.pretree.proofs.Adding.{not-at-row, damage-outcome, growable, grown-outcome}
 
-module _ (h : Header) (table : List ℕ) (k : ℕ) (at : Place) (r : Rows.Row) (fine : wrong-header h table ≡ false) (small : too-wide h k ≡ false)
-    (d : Displaces h table k at r) where
+module _ (h : Header) (table : List ℕ) (x : Entry) (at : Place) (r : Rows.Row) (fine : wrong-header h table ≡ false)
+    (small : too-wide h (x .key) ≡ false) (d : Displaces h table (x .key) at r) where
+  abbrev k : ℕ
+  k = x .key
+
   abbrev w : Walk
   w = d .walk
 
@@ -48,7 +52,7 @@ module _ (h : Header) (table : List ℕ) (k : ℕ) (at : Place) (r : Rows.Row) (
     where
       path-there : key / 2 ^ w .bits ≡ k / 2 ^ w .bits
       path-there =
-          let row-holds : holds w r ≡ true = subst (λ (x : Rows.Row). holds w x ≡ true) (sym (d .ends .1)) (placed .1) in
+          let row-holds : holds w r ≡ true = subst (λ (y : Rows.Row). holds w y ≡ true) (sym (d .ends .1)) (placed .1) in
           let low = and-true (leb (w .low) key) _ row-holds in
           eqb-true (key / 2 ^ w .bits) (w .path) (and-true (eqb (key / 2 ^ w .bits) (w .path)) _ (low .1) .0) ∙ d .path
 
@@ -80,13 +84,13 @@ module _ (h : Header) (table : List ℕ) (k : ℕ) (at : Place) (r : Rows.Row) (
 
   -- past the row, by its key's own bits
   abbrev past : Rows.Row → Leg
-  past x = legPast rowLeg x (sideOf (ownSide (at .mask) (x .entry .key)))
+  past y = legPast rowLeg y (sideOf (ownSide (at .mask) (y .entry .key)))
 
   passes-first : LegWalk rows pushing (h .count) stageAt (resumed w) (past r)
   unfolding pushing
   passes-first =
       let row-holds : holds w (rows (at .row)) ≡ true = subst (λ (i : ℕ). holds w (rows i) ≡ true) (sym (d .stands .row)) (placed .1) in
-      subst (λ (x : Rows.Row). LegWalk rows pushing (h .count) stageAt (resumed w) (past x)) (ap rows (d .stands .row) ∙ sym (d .ends .1))
+      subst (λ (y : Rows.Row). LegWalk rows pushing (h .count) stageAt (resumed w) (past y)) (ap rows (d .stands .row) ∙ sym (d .ends .1))
       (goes-past rows pushing (h .count) rowLeg (resumed w) wants-again (ap again (d .ends .0)) m bits row-holds _
       (λ n e. ap to (sym (own-turn (at .mask) n _ (d .stands .mask ∙ ap (λ (b : ℕ). 2 ^ b - 1) e)))) stageAt refl)
 
@@ -107,19 +111,19 @@ module _ (h : Header) (table : List ℕ) (k : ℕ) (at : Place) (r : Rows.Row) (
     goes : GoesOn rows pushing (h .count) (resumed w) p
     goes width whole g = ends-push .goes-on width whole (passes-first .goes-on width whole g)
 
-    absent : endsAt k (w .key) (w .stage) ≡ false
-    absent = ap (endsAt k (w .key)) (d .ends .0) ∙ ap (eqb k) (d .ends .2) ∙ ne-eqb k key (λ same. d .another (sym same))
+    absent : endsAt k (w .entry .key) (w .stage) ≡ false
+    absent = ap (endsAt k (w .entry .key)) (d .ends .0) ∙ ap (λ e. eqb k (e .key)) (d .ends .2) ∙ ne-eqb k key (λ same. d .another (sym same))
 
-    pub push-damaged : end ≡ Damage → addOutcome h table k ≡ record { reply = refused h Answers.Damage; table = table }
+    pub push-damaged : end ≡ Damage → addOutcome h table (fromCode x) ≡ record { reply = refused h Answers.Damage; table = table }
     push-damaged e =
         let at-damage : p .stage ≡ AtDamage = subst (EndsSo rows p) e (ends-push .ends) in
-        damage-outcome h table k w fine (d .walked) p goes (ap isOn at-damage) small absent at-damage
+        damage-outcome h table x w fine (d .walked) p goes (ap isOn at-damage) small absent at-damage
 
     at-link : (end ≡ Damage → ⊥) → p .stage ≡ AtNone
     at-link whole = go end refl (ends-push .ends)
       where
         off : (r : Rows.Row) → EndsSo rows p (Row r) → p .stage ≡ AtNone
-        off r at-row = absurd (not-at-row h table k w fine (d .walked) p goes (ap isOn (at-row .0)) m (d .ends .0) bits (at-row .0))
+        off r at-row = absurd (not-at-row h table x w fine (d .walked) p goes (ap isOn (at-row .0)) m (d .ends .0) bits (at-row .0))
 
         go : (e : End) → end ≡ e → EndsSo rows p e → p .stage ≡ AtNone
         go None is ends = ends
@@ -129,9 +133,9 @@ module _ (h : Header) (table : List ℕ) (k : ℕ) (at : Place) (r : Rows.Row) (
     module _ (whole : end ≡ Damage → ⊥) where
       pub push-growable : Growable h table (at .row) (bitsLeft (at .mask)) (endBits leg) (leg .above)
       push-growable =
-          growable h table k w fine (d .walked) p goes (ap isOn (at-link whole)) (at .row) (bitsLeft (at .mask)) leg (d .stands .row) (bits-there at w (d .stands)) (ends-push .on)
+          growable h table x w fine (d .walked) p goes (ap isOn (at-link whole)) (at .row) (bitsLeft (at .mask)) leg (d .stands .row) (bits-there at w (d .stands)) (ends-push .on)
 
-      pub push-outcome : addOutcome h table k ≡ grownOutcome h table k (at .row) (bitsLeft (at .mask)) (endBits leg) (leg .above) (endSide leg)
+      pub push-outcome : addOutcome h table (fromCode x) ≡ grownOutcome h table x (at .row) (bitsLeft (at .mask)) (endBits leg) (leg .above) (endSide leg)
       push-outcome =
-          grown-outcome h table k w fine (d .walked) p goes (ap isOn (at-link whole)) (at .row) (bitsLeft (at .mask)) leg (d .stands .row) (bits-there at w (d .stands)) (ends-push .on) small
+          grown-outcome h table x w fine (d .walked) p goes (ap isOn (at-link whole)) (at .row) (bitsLeft (at .mask)) leg (d .stands .row) (bits-there at w (d .stands)) (ends-push .on) small
           absent (at-link whole)

@@ -32,7 +32,7 @@ abbrev pub endsIn : (ℕ → Row) → Walk → Stage → Tree
 endsIn rows w On = none
 endsIn rows w AtNone = none
 endsIn rows w AtRow =
-    row (w .row) (record { key = w .key }) (below rows (w .count) (w .bits) (w .row) left) (below rows (w .count) (w .bits) (w .row) right)
+    row (w .row) (w .entry) (below rows (w .count) (w .bits) (w .row) left) (below rows (w .count) (w .bits) (w .row) right)
 endsIn rows w AtDamage = damaged
 
 module _ (rows : ℕ → Row) (f : Rule) (width count : ℕ) (tree : Tree) (w : Walk) (k : Walked rows f width count tree w) where

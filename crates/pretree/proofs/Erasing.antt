@@ -133,7 +133,7 @@ module _ (h : Header) (table : List ℕ) (fine : wrong-header h table ≡ false)
   end-part = endPart rows (seeking k k) (h .width) (h .count) (shown h table) w gone
 
   room : w .count ≤ capacity table
-  room = in-table h table k w fine gone
+  room = in-table h table (record { key = k }) w fine gone
 
   broken-is : broken whole ≡ isDamage (w .stage)
   unfolding broken
@@ -145,8 +145,8 @@ module _ (h : Header) (table : List ℕ) (fine : wrong-header h table ≡ false)
       by-stage AtRow = refl
       by-stage AtDamage = refl
 
-  ends-is : ends-at k whole ≡ endsAt k (w .key) (w .stage)
-  ends-is = rw (following-is k) (there h table k w fine gone)
+  ends-is : ends-at k whole ≡ endsAt k (w .entry .key) (w .stage)
+  ends-is = rw (following-is k) (there h table (record { key = k }) w fine gone)
 
   rows-are : Ways.rows whole ≡ rowsRead w (h .width)
   rows-are = rw (following-is k) (rows-gone rows (seeking k k) (h .width) (h .count) (shown h table) w gone)
@@ -165,11 +165,11 @@ module _ (h : Header) (table : List ℕ) (fine : wrong-header h table ≡ false)
       hang-told rows (w .count) (capacity table) (w .bits) (w .above) (w .path) room (ltb (w .bits) (h .width)) (above-end whole) above-is (last-such-one anything whole-used)
 
   -- the walk that ended at k's row goes on from there
-  module _ (at-k : endsAt k (w .key) (w .stage) ≡ true) where
+  module _ (at-k : endsAt k (w .entry .key) (w .stage) ≡ true) where
     at-row : w .stage ≡ AtRow
     at-row = go (w .stage) at-k
       where
-        go : (stage : Stage) → endsAt k (w .key) stage ≡ true → stage ≡ AtRow
+        go : (stage : Stage) → endsAt k (w .entry .key) stage ≡ true → stage ≡ AtRow
         go On e = cc
         go AtNone e = cc
         go AtRow e = refl
@@ -425,28 +425,28 @@ module _ (h : Header) (table : List ℕ) (fine : wrong-header h table ≡ false)
       }
 
   module _ (w : Walk) (gone : Walked (rowAt table) (seeking last-key last-key) (h .width) (h .count) (shown h table) w) where
-    astray-is : (broken (secondWay h table) || astray h table (secondWay h table)) ≡ not (endsAt last-key (w .key) (w .stage) && eqb (w .row) last)
+    astray-is : (broken (secondWay h table) || astray h table (secondWay h table)) ≡ not (endsAt last-key (w .entry .key) (w .stage) && eqb (w .row) last)
     unfolding secondWay astray
     astray-is =
         rw (broken-is h table fine last-key w gone, ends-is h table fine last-key w gone)
         (rw (following-is last-key, at-end h table fine last-key w gone .end) (by-stage (w .stage)))
       where
         by-stage : (stage : Stage)
-            → (isDamage stage || not (endsAt last-key (w .key) stage && eqb (numberAt (end-part h table fine last-key w gone stage)) last))
-            ≡ not (endsAt last-key (w .key) stage && eqb (w .row) last)
+            → (isDamage stage || not (endsAt last-key (w .entry .key) stage && eqb (numberAt (end-part h table fine last-key w gone stage)) last))
+            ≡ not (endsAt last-key (w .entry .key) stage && eqb (w .row) last)
         by-stage On = refl
         by-stage AtNone = refl
         by-stage AtRow = refl
         by-stage AtDamage = refl
 
     -- where it ended at the last row, the key there is its own
-    astray-by : (e : End) → EndsSo (rowAt table) w e → not (endsAt last-key (w .key) (w .stage) && eqb (w .row) last) ≡ not (ends-last (w .row) last e)
+    astray-by : (e : End) → EndsSo (rowAt table) w e → not (endsAt last-key (w .entry .key) (w .stage) && eqb (w .row) last) ≡ not (ends-last (w .row) last e)
     astray-by Ends.None so = rw so
     astray-by Ends.Damage so = rw so
-    astray-by (Ends.Row r) so = rw (so .0) (only-second (eqb last-key (w .key)) (eqb (w .row) last) own)
+    astray-by (Ends.Row r) so = rw (so .0) (only-second (eqb last-key (w .entry .key)) (eqb (w .row) last) own)
       where
-        own : eqb (w .row) last ≡ true → eqb last-key (w .key) ≡ true
-        own same = eq-eqb last-key (w .key) (rw (so .2, so .1, eqb-true (w .row) last same))
+        own : eqb (w .row) last ≡ true → eqb last-key (w .entry .key) ≡ true
+        own same = eq-eqb last-key (w .entry .key) (rw (so .2, so .1, eqb-true (w .row) last same))
 
     at-last : (e : End) → EndsSo (rowAt table) w e → not (ends-last (w .row) last e) ≡ false → w .stage ≡ AtRow
     at-last Ends.None so good = absurd (true≢false good)
@@ -519,7 +519,7 @@ module _ (h : Header) (table : List ℕ) (k : ℕ) (fine : wrong-header h table 
   unfolding delOutcome
   on-damage b = rw (fine, small, b)
 
-  module _ (w : Walk) (gone : Walked (rowAt table) (seeking k k) (h .width) (h .count) (shown h table) w) (absent : endsAt k (w .key) (w .stage) ≡ false) where
+  module _ (w : Walk) (gone : Walked (rowAt table) (seeking k k) (h .width) (h .count) (shown h table) w) (absent : endsAt k (w .entry .key) (w .stage) ≡ false) where
     broken-above : broken (change .rows-read) ≡ isDamage (w .stage)
     unfolding erasing
     broken-above = rw (ends-is h table fine k w gone ∙ absent) (broken-is h table fine k w gone)
@@ -583,8 +583,8 @@ module _ {h : Header} {table : List ℕ} {k : ℕ} {s : Seek} {end : End} (q : S
     pub seek-other : (r .entry .key ≡ k → ⊥)
         → delOutcome h table k ≡ record { reply = answered h NoSuchWord (h .width - bitsLeft (s .mask) + 1); table = table }
     seek-other apart =
-        let absent : endsAt k (q .ends .walk .key) (q .ends .walk .stage) ≡ false
-        = rw (so-row .0) (ne-eqb k (q .ends .walk .key) (λ same. apart (sym (same ∙ so-row .2)))) in
+        let absent : endsAt k (q .ends .walk .entry .key) (q .ends .walk .stage) ≡ false
+        = rw (so-row .0) (ne-eqb k (q .ends .walk .entry .key) (λ same. apart (sym (same ∙ ap (λ e. e .key) (so-row .2))))) in
         let read : rowsRead (q .ends .walk) (h .width) ≡ h .width - bitsLeft (s .mask) + 1 = rw (so-row .0, bits-left q) in
         rw (← read) (not-there h table k (q .fine) (q .small) (q .ends .walk) (q .ends .walked) absent (rw (so-row .0)))
 
@@ -594,7 +594,7 @@ module _ {h : Header} {table : List ℕ} {k : ℕ} {s : Seek} {end : End} (q : S
           record {
             walk = q .ends .walk;
             walked = q .ends .walked;
-            there = rw (so-row .0) (eq-eqb k (q .ends .walk .key) (sym (so-row .2 ∙ same)));
+            there = rw (so-row .0) (eq-eqb k (q .ends .walk .entry .key) (sym (ap (λ e. e .key) (so-row .2) ∙ same)));
             stands = stands-there q;
             above = q .ends .above;
           }

@@ -12,7 +12,8 @@ use Rattle.ordered.specs.Word.{right}
 use Rattle.ordered.specs.Tree.{Tree, none, row, damaged}
 use Rattle.ordered.specs.Way.{Way, Rule, way, ending, broken, isDamaged, staying, down}
 use Rattle.ordered.specs.Way as Ways
-use Rattle.ordered.specs.Reading.{rowsOf, brokenIn, keyAt, to-its-end, has}
+use Rattle.ordered.specs.Reading.{Found, wordIn, rowsOf, brokenIn, root-row, end-row, to-its-end, has}
+use Rattle.ordered.specs.Dictionary.{no-entry}
 use Rattle.pretree.specs.declared.Header.{Header}
 use Rattle.pretree.specs.declared.Answer.the-variants.{Done, Word, WrongHeader, Damage, NoSuchWord}
 use Rattle.pretree.specs.declared.Reply.{Reply}
@@ -25,7 +26,7 @@ use Rattle.pretree.specs.declared.seek.Seek.{Seek}
 use Rattle.pretree.specs.Table.{rowAt}
 use Rattle.pretree.specs.Unfold.{judged, unfolded, shown}
 use Rattle.pretree.specs.Reply.{wrong-header, too-wide, refused, answered}
-use Rattle.pretree.specs.Find.{read-reply, saying, done, hasReply}
+use Rattle.pretree.specs.Find.{word, read-reply, saying, done, hasReply}
 use Rattle.pretree.specs.Walk.{Walk, On, AtDamage, isOn, rowsRead, started, startedAt, ended, holds, treeAt, to-come, seeking, Placed, Walking, Walked}
 use Rattle.pretree.specs.Resume.{Going}
 use Rattle.pretree.specs.Seek.{bitsLeft, endAt, Sought, SeekEnds}
@@ -53,7 +54,7 @@ module _ (h : Header) (n : ℕ) (rows : ℕ → Rows.Row) (f : Rule) (m count : 
     where
       by-end : (e : End) → EndsSo rows w e
           → (let t : Tree = endsIn rows w (w .stage) in
-          if isDamaged t then refused h Damage else answered h (saying Word (keyAt t)) (n + rowsRead w m))
+          if isDamaged t then refused h Damage else answered h (saying word (root-row (way f m tree .bits) t)) (n + rowsRead w m))
           ≡ wordBy h (n + (m - w .bits)) e
       by-end Ends.the-variants.None at = rw at (ap (answered h NoSuchWord) (omega arith))
       by-end (Ends.the-variants.Row r) so = rw (so .0, so .2) (ap (answered h (Word (r .entry .key))) (omega arith))
@@ -68,7 +69,7 @@ module _ (h : Header) (table : List ℕ) (k : ℕ) (w : Walk) (fine : wrong-head
       rw (fine, small, following-is k, rows-gone _ _ _ _ _ w gone, add-zero, all-gone _ _ _ _ _ w gone .end) (by-end e so)
     where
       by-key : (b : Bool) (n : ℕ)
-          → answered h (saying done (if b then such (w .key) else no-such)) n
+          → answered h (saying done (if b then such (record { entry = w .entry; bits = way (seeking k k) (h .width) (shown h table) .bits }) else no-such)) n
           ≡ (if b then answered h Done n else answered h NoSuchWord n)
       by-key true n = refl
       by-key false n = refl
@@ -76,10 +77,10 @@ module _ (h : Header) (table : List ℕ) (k : ℕ) (w : Walk) (fine : wrong-head
       by-end : (e : End) → EndsSo (rowAt table) w e
           → (let t : Tree = endsIn (rowAt table) w (w .stage) in
           if isDamaged t || false then refused h Damage
-          else answered h (saying done (only-if (eqb k) (keyAt t))) (rowsRead w (h .width)))
+          else answered h (saying done (only-if (λ f. eqb k (wordIn f)) (root-row (way (seeking k k) (h .width) (shown h table) .bits) t))) (rowsRead w (h .width)))
           ≡ foundBy h k (h .width - w .bits) e
       by-end Ends.the-variants.None at = rw at (ap (answered h NoSuchWord) (omega arith))
-      by-end (Ends.the-variants.Row r) so = rw (so .0, ← so .2) (by-key (eqb k (w .key)) (h .width - w .bits + 1))
+      by-end (Ends.the-variants.Row r) so = rw (so .0, ← ap (λ e. e .key) (so .2)) (by-key (eqb k (w .entry .key)) (h .width - w .bits + 1))
       by-end Ends.the-variants.Damage at = rw at
 
 -- with no word every way is empty
@@ -104,7 +105,7 @@ none-found h table k fine small empty = rw (fine, small, empty-way h table (Ways
 -- `first` and `last`: the word at which one way from the root ends
 module _ (h : Header) (table : List ℕ) (f : Rule) where
   abbrev pub rootReply : Reply
-  rootReply = read-reply h table false Word (to-its-end [] (way f (h .width) (shown h table)))
+  rootReply = read-reply h table false word (to-its-end [] (way f (h .width) (shown h table)))
 
   pub root-refused : wrong-header h table ≡ true → refused h WrongHeader ≡ rootReply
   root-refused wrong = rw wrong
@@ -120,7 +121,7 @@ module _ (h : Header) (table : List ℕ) (f : Rule) where
       where
         go : (v : Way)
             → then-by h 0 v
-            ≡ (if broken v || false then refused h Damage else answered h (saying Word (keyAt (v .end))) (Ways.rows v + 0))
+            ≡ (if broken v || false then refused h Damage else answered h (saying word (end-row v)) (Ways.rows v + 0))
         go v = rw (or-false, add-zero, zero-add)
 
 -- a way that stays ends at once
@@ -154,7 +155,7 @@ module _ (h : Header) (table : List ℕ) (p : Place) (g : GreatestFrom h p) wher
 
   -- a walk there that remembers nothing
   abbrev fresh : Walk
-  fresh = ended (startedAt (h .count) (w .row) (w .bits) (w .path) (w .low)) (stageHere (h .count) (w .row)) 0
+  fresh = ended (startedAt (h .count) (w .row) (w .bits) (w .path) (w .low)) (stageHere (h .count) (w .row)) no-entry
 
   abbrev start : Leg
   start = record { at = p; above = 0 }

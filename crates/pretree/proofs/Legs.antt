@@ -16,7 +16,7 @@ use Rattle.pretree.specs.declared.leg.End.{End}
 use Rattle.pretree.specs.declared.leg.End.the-variants.{None, Row, Damage}
 use Rattle.pretree.specs.declared.leg.Place.{Place}
 use Rattle.pretree.specs.declared.leg.Leg.{Leg}
-use Rattle.pretree.specs.Table.{link}
+use Rattle.pretree.specs.Table.{entryOf, link}
 use Rattle.pretree.specs.Walk.{Walk, Stage, On, AtRow, AtDamage, isOn, holds, ended, remembering, passed, turned, stageAt, met, below, downTurn}
 use Rattle.pretree.specs.Leg.{judges, belowPlace, rowEnd, linkEnd, EndsSo, Stands, OnLeg, GoesOn, passesDown, firstSide, passesPush, ownSide, stageHere, BegunLeg, LegWalk, LegGone, LegEnds}
 use Rattle.pretree.proofs.Between.{turns-so, side-of-bit}
@@ -60,19 +60,19 @@ halves rows count p passing = omega (arith, passing .bits-left)
 
 -- what a walk does at a row
 module _ (w : Walk) (r : Rows.Row) where
-  meets-damage : (t : Turn) → holds w r ≡ false → met w r t ≡ ended w AtDamage (r .entry .key)
+  meets-damage : (t : Turn) → holds w r ≡ false → met w r t ≡ ended w AtDamage (entryOf r)
   unfolding met
   meets-damage t bad = rw bad
 
-  stops-there : holds w r ≡ true → met w r stop ≡ ended w AtRow (r .entry .key)
+  stops-there : holds w r ≡ true → met w r stop ≡ ended w AtRow (entryOf r)
   unfolding met turned
   stops-there fine = rw fine (go (eqb (w .bits) 0))
     where
-      go : (b : Bool) → (if b then ended w AtRow (r .entry .key) else ended w AtRow (r .entry .key)) ≡ ended w AtRow (r .entry .key)
+      go : (b : Bool) → (if b then ended w AtRow (entryOf r) else ended w AtRow (entryOf r)) ≡ ended w AtRow (entryOf r)
       go true = refl
       go false = refl
 
-  stops-at-depth : (t : Turn) → holds w r ≡ true → w .bits ≡ 0 → met w r t ≡ ended w AtRow (r .entry .key)
+  stops-at-depth : (t : Turn) → holds w r ≡ true → w .bits ≡ 0 → met w r t ≡ ended w AtRow (entryOf r)
   unfolding met
   stops-at-depth t fine none-left = rw (fine, none-left)
 
@@ -89,18 +89,18 @@ module _ (rows : ℕ → Rows.Row) (f : Rule) (count : ℕ) (l : Leg) (w : Walk)
   abbrev Says : Turn → Type 0
   Says t =
       (m : ℕ) → w .bits ≡ suc m
-      → f m (record { key = here .entry .key }) (below rows count (suc m) (l .at .row) left) (below rows count (suc m) (l .at .row) right) ≡ t
+      → f m (entryOf here) (below rows count (suc m) (l .at .row) left) (below rows count (suc m) (l .at .row) right) ≡ t
 
   meets-row : (t : Turn) → Says t → GoesOn rows f count w (met w here t)
   meets-row t says =
       subst (λ (i : ℕ). GoesOn rows f count w (met w (rows i) t)) (sym (on .stands .row))
       (λ width whole g. keeps-on rows f width count whole w (ap isOn wants) g t (λ m e. rw (on .same-count, ← on .stands .row) (says m e)))
 
-  ended-with : (t : Turn) (stage : Stage) (e : End) → Says t → met w here t ≡ ended w stage (here .entry .key)
-      → EndsSo rows (ended w stage (here .entry .key)) e → LegEnds rows f count w l e
+  ended-with : (t : Turn) (stage : Stage) (e : End) → Says t → met w here t ≡ ended w stage (entryOf here)
+      → EndsSo rows (ended w stage (entryOf here)) e → LegEnds rows f count w l e
   ended-with t stage e says ends so =
       record {
-        walk = ended w stage (here .entry .key);
+        walk = ended w stage (entryOf here);
         on =
             record {
               stands =
@@ -122,7 +122,7 @@ module _ (rows : ℕ → Rows.Row) (f : Rule) (count : ℕ) (l : Leg) (w : Walk)
   -- where the row is passed, the walk goes past it with the leg
   module _ (m : ℕ) (bits : w .bits ≡ suc m) (fine : holds w here ≡ true) (s : Side) (says : Says (to s)) where
     past-link : (v : Walk) (i : Side) → v .bits ≡ w .bits → v .path ≡ w .path → v .row ≡ w .row → v .count ≡ w .count
-        → OnLeg count (legPast l here i) (passed v (here .entry .key) (bitOf i) (link here i))
+        → OnLeg count (legPast l here i) (passed v (entryOf here) (bitOf i) (link here i))
     past-link v i same-bits same-path same-row same-count =
         record {
           stands = below-stands (l .at) w (on .stands) m bits here i v same-bits same-path;
@@ -135,7 +135,7 @@ module _ (rows : ℕ → Rows.Row) (f : Rule) (count : ℕ) (l : Leg) (w : Walk)
     past-row right = past-link w right refl refl refl refl
     past-row left = go (eqb (here .right) 0)
       where
-        go : (b : Bool) → OnLeg count (legPast l here left) (passed (if b then w else remembering w) (here .entry .key) 0 (here .left))
+        go : (b : Bool) → OnLeg count (legPast l here left) (passed (if b then w else remembering w) (entryOf here) 0 (here .left))
         go true = past-link w left refl refl refl refl
         go false = past-link (remembering w) left refl refl refl refl
 
@@ -149,7 +149,7 @@ module _ (rows : ℕ → Rows.Row) (f : Rule) (count : ℕ) (l : Leg) (w : Walk)
     stage-past right = rw (on .same-count)
     stage-past left = go (eqb (here .right) 0)
       where
-        go : (b : Bool) → passed (if b then w else remembering w) (here .entry .key) 0 (here .left) .stage ≡ stageAt count (here .left)
+        go : (b : Bool) → passed (if b then w else remembering w) (entryOf here) 0 (here .left) .stage ≡ stageAt count (here .left)
         go true = rw (on .same-count)
         go false = rw (on .same-count)
 
@@ -163,7 +163,7 @@ module _ (rows : ℕ → Rows.Row) (f : Rule) (count : ℕ) (l : Leg) (w : Walk)
         }
 
   -- where it is the last one, the walk ends there with the leg
-  ends-here : (t : Turn) → Says t → (holds w here ≡ true → met w here t ≡ ended w AtRow (here .entry .key))
+  ends-here : (t : Turn) → Says t → (holds w here ≡ true → met w here t ≡ ended w AtRow (entryOf here))
       → LegEnds rows f count w l (if judges (l .at) here then Row here else Damage)
   ends-here t says last = rw (judges-so (l .at) w (on .stands) here) (go (holds w here) refl)
     where
@@ -202,7 +202,7 @@ pub passes-row : (rows : ℕ → Rows.Row) (f : Rule) (count : ℕ) (stageOf : �
     → stageOf count (l .at .row) ≡ On
     → stageAt count (link (rows (l .at .row)) s) ≡ stageOf count (link (rows (l .at .row)) s)
     → ((w : Walk) → OnLeg count l w → (m : ℕ) → w .bits ≡ suc m
-    → f m (record { key = rows (l .at .row) .entry .key }) (below rows count (suc m) (l .at .row) left) (below rows count (suc m) (l .at .row) right)
+    → f m (entryOf (rows (l .at .row))) (below rows count (suc m) (l .at .row) left) (below rows count (suc m) (l .at .row) right)
     ≡ to s)
     → Follows rows f count stageOf l (legPast l (rows (l .at .row)) s)
 passes-row rows f count stageOf l s p wants led says w on stage =

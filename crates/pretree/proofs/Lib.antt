@@ -1,5 +1,6 @@
 pub mod Tests
 pub mod Writing
+pub mod Rows
 pub mod Checks
 pub mod Unfolding
 pub mod Walking

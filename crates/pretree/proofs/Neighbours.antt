@@ -9,7 +9,7 @@ use Rattle.ordered.specs.Such.{if_then_else_, Perhaps, such, no-such, only-if, 
 use Rattle.ordered.specs.Tree.{Tree, none}
 use Rattle.ordered.specs.Way.{Way, Step, way, rows, broken, isDamaged, ending, following, down}
 use Rattle.ordered.specs.Word.{left, right, sideOf, isSide}
-use Rattle.ordered.specs.Reading.{Reading, rowsOf, brokenIn, keyAt, to-its-end, right-child, next-by, left-left-aside, prev-by, next, prev}
+use Rattle.ordered.specs.Reading.{Found, wordIn, passed-row, Reading, rowsOf, brokenIn, root-row, end-row, end-if, to-its-end, right-child, next-by, left-left-aside, prev-by, next, prev}
 use Rattle.ordered.proofs.Parts.{same-last}
 use Rattle.ordered.proofs.Ways.{passed-pass, following-seeks}
 use Rattle.pretree.specs.declared.Header.{Header}
@@ -21,7 +21,7 @@ use Rattle.pretree.specs.Walk.{Walk}
 use Rattle.pretree.specs.Table.{rowAt}
 use Rattle.pretree.specs.Unfold.{shown}
 use Rattle.pretree.specs.Reply.{wrong-header, too-wide, refused, answered}
-use Rattle.pretree.specs.Find.{saying, nextReply, prevReply}
+use Rattle.pretree.specs.Find.{saying, word, nextReply, prevReply}
 use Rattle.pretree.specs.Found.{then-by, aside-from, next-from, above-by, above-from, prev-from}
 use Rattle.pretree.specs.Walk.{seeking, stepAt, remembered, rowsRead, Walked}
 use Rattle.pretree.proofs.Ended.{endsIn, all-gone, rows-gone}
@@ -29,10 +29,10 @@ use Rattle.pretree.proofs.Unfolding.{there}
 use Rattle.pretree.proofs.Seeking.{following-is, passing-equal-is}
 
 -- the reply of a reading, once the checks are passed
-abbrev reply-of : Header → Reading → Reply
+abbrev reply-of : Header → Reading Found → Reply
 reply-of h r =
     if brokenIn (r .ways) then refused h Damage
-    else answered h (saying Word (r .answer)) (rowsOf (r .ways))
+    else answered h (saying word (r .answer)) (rowsOf (r .ways))
 
 -- a way that ends at damage is broken, and no other
 broken-end : (w : Way) {t : Tree} → w .end ≡ t → broken w ≡ isDamaged t
@@ -41,12 +41,12 @@ broken-end w e = rw e
 
 module _ (h : Header) (w : Way) (n : ℕ) (so-many : rows w ≡ n) where
   -- damage on its first way is damage
-  broken-first : (vs : List Way) (a : Perhaps ℕ) → broken w ≡ true → reply-of h (record { ways = w ∷ vs; answer = a }) ≡ refused h Damage
+  broken-first : (vs : List Way) (a : Perhaps Found) → broken w ≡ true → reply-of h (record { ways = w ∷ vs; answer = a }) ≡ refused h Damage
   unfolding brokenIn
   broken-first vs a b = rw b
 
   -- one way
-  alone : (a : Perhaps ℕ) → broken w ≡ false → reply-of h (record { ways = w ∷ []; answer = a }) ≡ answered h (saying Word a) n
+  alone : (a : Perhaps Found) → broken w ≡ false → reply-of h (record { ways = w ∷ []; answer = a }) ≡ answered h (saying word a) n
   unfolding brokenIn rowsOf
   alone a b = rw (b, so-many, add-zero)
 
@@ -78,27 +78,27 @@ module _ (h : Header) (table : List ℕ) (k : ℕ) (w : Walk) (fine : wrong-head
       nothing = rw add-zero
 
   by-stage : (stage : Stage) → way-gone .end ≡ part-at stage
-      → reply-of h (next-by way-gone (only-if (ltb k) (keyAt (part-at stage))) (remembered (rowAt table) (h .count) (w .any) (w .beneath) (w .aside) left))
-      ≡ next-from h (rowAt table) k stage (w .key) n (w .any) (w .beneath) (w .aside)
+      → reply-of h (next-by way-gone (only-if (λ f. ltb k (wordIn f)) (root-row (way-gone .bits) (part-at stage))) (remembered (rowAt table) (h .count) (w .any) (w .beneath) (w .aside) left))
+      ≡ next-from h (rowAt table) k stage (w .entry .key) n (w .any) (w .beneath) (w .aside)
   by-stage On e = aside-at (w .any) (broken-end way-gone e)
   by-stage AtNone e = aside-at (w .any) (broken-end way-gone e)
-  by-stage AtDamage e = broken-first h way-gone n (rows-gone _ _ _ _ _ w gone) (child ∷ []) (keyAt (child .end)) (broken-end way-gone e)
+  by-stage AtDamage e = broken-first h way-gone n (rows-gone _ _ _ _ _ w gone) (child ∷ []) (end-row child) (broken-end way-gone e)
     where
       child : Way
       child = right-child (remembered (rowAt table) (h .count) (w .any) (w .beneath) (w .aside) left)
-  by-stage AtRow e = by-key (ltb k (w .key))
+  by-stage AtRow e = by-key (ltb k (w .entry .key))
     where
       by-key : (b : Bool)
-          → reply-of h (next-by way-gone (if b then such (w .key) else no-such) (remembered (rowAt table) (h .count) (w .any) (w .beneath) (w .aside) left))
-          ≡ (if b then answered h (Word (w .key)) n else aside-from h (rowAt table) n (w .any) (w .beneath) (w .aside))
-      by-key true = alone h way-gone n (rows-gone _ _ _ _ _ w gone) (such (w .key)) (broken-end way-gone e)
+          → reply-of h (next-by way-gone (if b then such (record { entry = w .entry; bits = way-gone .bits }) else no-such) (remembered (rowAt table) (h .count) (w .any) (w .beneath) (w .aside) left))
+          ≡ (if b then answered h (Word (w .entry .key)) n else aside-from h (rowAt table) n (w .any) (w .beneath) (w .aside))
+      by-key true = alone h way-gone n (rows-gone _ _ _ _ _ w gone) (such (record { entry = w .entry; bits = way-gone .bits })) (broken-end way-gone e)
       by-key false = aside-at (w .any) (broken-end way-gone e)
 
-  pub next-at : nextReply h table k ≡ next-from h (rowAt table) k (w .stage) (w .key) n (w .any) (w .beneath) (w .aside)
+  pub next-at : nextReply h table k ≡ next-from h (rowAt table) k (w .stage) (w .entry .key) n (w .any) (w .beneath) (w .aside)
   unfolding nextReply next
   next-at =
       rw (fine, small, passing-equal-is k)
-      (ap₂ (λ (end : Tree) (p : Perhaps Step). reply-of h (next-by way-gone (only-if (ltb k) (keyAt end)) p)) (all-gone _ _ _ _ _ w gone .end)
+      (ap₂ (λ (end : Tree) (p : Perhaps Step). reply-of h (next-by way-gone (only-if (λ f. ltb k (wordIn f)) (root-row (way-gone .bits) end)) p)) (all-gone _ _ _ _ _ w gone .end)
       (all-gone _ _ _ _ _ w gone .aside
       ∙ ap (λ (c : ℕ). remembered (rowAt table) c (w .any) (w .beneath) (w .aside) left) (gone .walking .same-count))
       ∙ by-stage (w .stage) (all-gone _ _ _ _ _ w gone .end))
@@ -135,18 +135,18 @@ module _ (h : Header) (table : List ℕ) (k : ℕ) (w : Walk) (fine : wrong-head
       p = stepAt (rowAt table) (h .count) (w .bits) (w .above) (sideOf (w .path % 2))
 
       go : (b : Bool)
-          → reply-of h (if b then to-its-end (way-of-k ∷ []) (way (down right) (p .below) (p .left-part)) else record { ways = way-of-k ∷ []; answer = such (p .entry .key) })
+          → reply-of h (if b then to-its-end (way-of-k ∷ []) (way (down right) (p .below) (p .left-part)) else record { ways = way-of-k ∷ []; answer = such (passed-row p) })
           ≡ above-by h (rowAt table) rows-of-k (w .bits) (w .above) b
       go true = and-then h way-of-k rows-of-k so-many-rows _ whole
-      go false = alone h way-of-k rows-of-k so-many-rows (such (rowAt table (w .above) .entry .key)) whole
+      go false = alone h way-of-k rows-of-k so-many-rows (such (passed-row p)) whole
 
   -- every row that the way of k passed has a key below k
   below-k : last-such (λ (s : Step). ltb (s .entry .key) k) (way-of-k .passed) ≡ last-such anything (way-of-k .passed)
   below-k = rw (← following-is k) (same-last (way (following k) (h .width) (shown h table) .passed) (passed-pass (following k) (λ x. ltb x k) k (following-seeks k) (h .width) (shown h table)))
 
   prev-by-stage : (stage : Stage) → way-of-k .end ≡ endsIn (rowAt table) w stage
-      → reply-of h (prev-by way-of-k (only-if (λ x. ltb x k) (keyAt (endsIn (rowAt table) w stage))) (passed-above (ltb (w .bits) (h .width))))
-      ≡ prev-from h (rowAt table) k stage (w .key) rows-of-k (w .bits) (w .path) (w .above)
+      → reply-of h (prev-by way-of-k (only-if (λ f. ltb (wordIn f) k) (root-row (way-of-k .bits) (endsIn (rowAt table) w stage))) (passed-above (ltb (w .bits) (h .width))))
+      ≡ prev-from h (rowAt table) k stage (w .entry .key) rows-of-k (w .bits) (w .path) (w .above)
   prev-by-stage On e = above-with (ltb (w .bits) (h .width)) (broken-end way-of-k e)
   prev-by-stage AtNone e = above-with (ltb (w .bits) (h .width)) (broken-end way-of-k e)
   prev-by-stage AtDamage e = any-broken (passed-above (ltb (w .bits) (h .width)))
@@ -162,22 +162,22 @@ module _ (h : Header) (table : List ℕ) (k : ℕ) (w : Walk) (fine : wrong-head
           d = way (down right) (p .below) (p .left-part)
 
           go : (c : Bool)
-              → reply-of h (if c then to-its-end (way-of-k ∷ []) d else record { ways = way-of-k ∷ []; answer = such (p .entry .key) }) ≡ refused h Damage
-          go true = broken-first h way-of-k rows-of-k so-many-rows (d ∷ []) (keyAt (d .end)) b
-          go false = broken-first h way-of-k rows-of-k so-many-rows [] (such (p .entry .key)) b
-  prev-by-stage AtRow e = by-key (ltb (w .key) k)
+              → reply-of h (if c then to-its-end (way-of-k ∷ []) d else record { ways = way-of-k ∷ []; answer = such (passed-row p) }) ≡ refused h Damage
+          go true = broken-first h way-of-k rows-of-k so-many-rows (d ∷ []) (end-row d) b
+          go false = broken-first h way-of-k rows-of-k so-many-rows [] (such (passed-row p)) b
+  prev-by-stage AtRow e = by-key (ltb (w .entry .key) k)
     where
       by-key : (b : Bool)
-          → reply-of h (prev-by way-of-k (if b then such (w .key) else no-such) (passed-above (ltb (w .bits) (h .width))))
-          ≡ (if b then answered h (Word (w .key)) rows-of-k else above-from h (rowAt table) rows-of-k (w .bits) (w .path) (w .above))
-      by-key true = alone h way-of-k rows-of-k so-many-rows (such (w .key)) (broken-end way-of-k e)
+          → reply-of h (prev-by way-of-k (if b then such (record { entry = w .entry; bits = way-of-k .bits }) else no-such) (passed-above (ltb (w .bits) (h .width))))
+          ≡ (if b then answered h (Word (w .entry .key)) rows-of-k else above-from h (rowAt table) rows-of-k (w .bits) (w .path) (w .above))
+      by-key true = alone h way-of-k rows-of-k so-many-rows (such (record { entry = w .entry; bits = way-of-k .bits })) (broken-end way-of-k e)
       by-key false = above-with (ltb (w .bits) (h .width)) (broken-end way-of-k e)
 
-  pub prev-at : prevReply h table k ≡ prev-from h (rowAt table) k (w .stage) (w .key) rows-of-k (w .bits) (w .path) (w .above)
+  pub prev-at : prevReply h table k ≡ prev-from h (rowAt table) k (w .stage) (w .entry .key) rows-of-k (w .bits) (w .path) (w .above)
   unfolding prevReply prev
   prev-at =
       rw (fine, small, following-is k)
-      (ap₂ (λ (end : Tree) (p : Perhaps Step). reply-of h (prev-by way-of-k (only-if (λ x. ltb x k) (keyAt end)) p)) (all-gone _ _ _ _ _ w gone .end)
+      (ap₂ (λ (end : Tree) (p : Perhaps Step). reply-of h (prev-by way-of-k (only-if (λ f. ltb (wordIn f) k) (root-row (way-of-k .bits) end)) p)) (all-gone _ _ _ _ _ w gone .end)
       (below-k ∙ all-gone _ _ _ _ _ w gone .above
       ∙ ap (λ (c : ℕ). remembered (rowAt table) c (ltb (w .bits) (h .width)) (w .bits) (w .above) (sideOf (w .path % 2))) (gone .walking .same-count))
       ∙ prev-by-stage (w .stage) (all-gone _ _ _ _ _ w gone .end))

@@ -19,7 +19,7 @@ use Rattle.pretree.specs.declared.Row as Rows
 use Rattle.pretree.specs.declared.leg.End.{End}
 use Rattle.pretree.specs.declared.leg.End.the-variants.{None, Row, Damage}
 use Rattle.pretree.specs.declared.seek.Seek.{Seek}
-use Rattle.pretree.specs.Table.{rowWords, rowAt, link}
+use Rattle.pretree.specs.Table.{entryOf, rowWords, rowAt, link}
 use Rattle.pretree.specs.Unfold.{ends-there, shown}
 use Rattle.pretree.specs.declared.Answer.the-variants.{Word, NoSuchWord}
 use Rattle.pretree.specs.Reply.{wrong-header, too-wide, answered}
@@ -110,7 +110,7 @@ module _ (rows : ℕ → Rows.Row) (k : ℕ) (s : Seek) (w : Walk) (m : ℕ) (bi
   shows-past : (v : Walk) (σ : Side) (t : Seek) → side m k ≡ σ → v .bits ≡ suc m → v .path ≡ w .path
       → t .row ≡ link here σ → t .mask ≡ s .mask / 2 → t .tail ≡ bitAnd (s .tail) (s .mask / 2)
       → t .aside ≡ asideOf rows (v .any) (v .aside) → t .span ≡ spanOf (v .any) (v .beneath)
-      → ShowsNext rows k t (passed v (here .entry .key) (bitOf σ) (link here σ))
+      → ShowsNext rows k t (passed v (entryOf here) (bitOf σ) (link here σ))
   shows-past v σ t e v-bits v-path t-row t-mask t-tail t-aside t-span =
       let less : pred (v .bits) ≡ m = rw v-bits in
       record {
@@ -133,7 +133,7 @@ module _ (rows : ℕ → Rows.Row) (k : ℕ) (s : Seek) (w : Walk) (m : ℕ) (bi
       turns = rw (mask, tail, bits) (turns-so m k)
 
       to-left : (c : Bool) → eqb (here .right) 0 ≡ c → side m k ≡ left
-          → ShowsNext rows k (stepped-to (not c) left) (passed (if c then resumed w else remembering (resumed w)) (here .entry .key) 0 (here .left))
+          → ShowsNext rows k (stepped-to (not c) left) (passed (if c then resumed w else remembering (resumed w)) (entryOf here) 0 (here .left))
       to-left true none-right e = shows-past (resumed w) left (stepped-to false left) e bits refl refl refl refl aside span
       to-left false some-right e = shows-past (remembering (resumed w)) left (stepped-to true left) e bits refl refl refl refl refl (rw bits half)
 
@@ -155,7 +155,7 @@ unfolding turned
 turned-bits w r right = refl
 turned-bits w r left = go (eqb (r .right) 0)
   where
-    go : (b : Bool) → passed (if b then w else remembering w) (r .entry .key) 0 (r .left) .bits ≡ pred (w .bits)
+    go : (b : Bool) → passed (if b then w else remembering w) (entryOf r) 0 (r .left) .bits ≡ pred (w .bits)
     go true = refl
     go false = refl
 
@@ -178,7 +178,7 @@ module _ (h : Header) (table : List ℕ) (k : ℕ) (fine : wrong-header h table 
     at-damage : w .stage ≡ AtDamage → nextReply h table k ≡ nextAt h rows k s Damage
     at-damage at =
         next-at h table k (resumed w) fine small (record { walking = onward; ended = ap (λ (st : Stage). isOn (again st)) at })
-        ∙ ap (λ (st : Stage). next-from h rows k (again st) (w .key) (h .width - w .bits + endRead (again st)) (w .any) (w .beneath) (w .aside)) at
+        ∙ ap (λ (st : Stage). next-from h rows k (again st) (w .entry .key) (h .width - w .bits + endRead (again st)) (w .any) (w .beneath) (w .aside)) at
 
     at-none : w .stage ≡ AtNone → s .row ≡ 0 → nextReply h table k ≡ nextAt h rows k s None
     at-none at nowhere =
@@ -214,7 +214,7 @@ module _ (h : Header) (table : List ℕ) (k : ℕ) (fine : wrong-header h table 
       walks = takes-on rows (suc k) k (h .width) (h .count) (shown h table) (resumed w) on onward
 
       abbrev ended-here : Walk
-      ended-here = ended (resumed w) AtRow key
+      ended-here = ended (resumed w) AtRow (entryOf (rows (w .row)))
 
       -- it ends there if the key is greater than k, or no bit is left
       stops-greater : k < key → met-row ≡ ended-here

@@ -23,7 +23,7 @@ use Rattle.pretree.specs.declared.Reply.{Reply}
 use Rattle.pretree.specs.declared.leg.End as Ends
 use Rattle.pretree.specs.declared.leg.Place.{Place}
 use Rattle.pretree.specs.declared.seek.Seek.{Seek}
-use Rattle.pretree.specs.Table.{rowAt}
+use Rattle.pretree.specs.Table.{entryOf, rowAt}
 use Rattle.pretree.specs.Unfold.{ends-there, judged, linked, unfolded, shown}
 use Rattle.pretree.specs.Reply.{wrong-header, too-wide}
 use Rattle.pretree.specs.Find.{nextReply}
@@ -135,7 +135,7 @@ module _ (h : Header) (table : List ℕ) (k : ℕ) (fine : wrong-header h table 
 
   -- the reply of a walk that has gone the whole way
   abbrev pub reply-by : Walk → Reply
-  reply-by w = next-from h (rowAt table) k (w .stage) (w .key) (rowsRead w (h .width)) (w .any) (w .beneath) (w .aside)
+  reply-by w = next-from h (rowAt table) k (w .stage) (w .entry .key) (rowsRead w (h .width)) (w .any) (w .beneath) (w .aside)
 
   -- at the right link left aside
   module _ (w : Walk) (gone : Walked (rowAt table) (seeking (suc k) k) (h .width) (h .count) (shown h table) w) (s : Seek) (nowhere : s .row ≡ 0) (n : ℕ) where
@@ -168,7 +168,7 @@ module _ (h : Header) (table : List ℕ) (k : ℕ) (fine : wrong-header h table 
     above-k some judged = leb-true _ _ (rw (shows .low some) at (and-true (leb (v .low) (r .entry .key)) _ judged .0))
 
     abbrev ends-with : Bool → Walk
-    ends-with b = if b then ended v AtRow (r .entry .key) else ended v AtDamage (r .entry .key)
+    ends-with b = if b then ended v AtRow (entryOf r) else ended v AtDamage (entryOf r)
 
     met-there : (v .row ≡ 0 → ⊥) → (b : Bool) → holds v r ≡ b → met v r (seekTurn (suc k) k (r .entry .key) (v .bits)) ≡ ends-with b
     unfolding met

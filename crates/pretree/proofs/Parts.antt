@@ -14,14 +14,16 @@ use lib.Seq.{sets}
 use borrow.Author.Tests.{ltb-true, eqb-true, eqb-false, ne-eqb}
 use Rattle.ordered.specs.Such.{if_then_else_}
 use Rattle.ordered.specs.Word.{Side, left, right, bitOf}
-use Rattle.ordered.specs.Tree.{Tree, none, row, damaged, Entry, intact, size, listing}
+use Rattle.ordered.specs.Dictionary.{Entry, words}
+use Rattle.ordered.specs.Tree.{Tree, none, row, damaged, intact, size, entries, listing}
 use Rattle.ordered.proofs.Ways.{and-true}
+use Rattle.ordered.proofs.Parts.{words-append}
 use Rattle.ordered.proofs.OneTree.{listing-length}
 use Rattle.pretree.specs.declared.Row as Rows
 use Rattle.pretree.specs.declared.leg.End.{End}
 use Rattle.pretree.specs.declared.leg.End.the-variants.{None, Row, Damage}
 use Rattle.pretree.specs.declared.leg.Place.{Place}
-use Rattle.pretree.specs.Table.{link}
+use Rattle.pretree.specs.Table.{entryOf, link}
 use Rattle.pretree.specs.Unfold.{ends-there, judged, linked, unfolded}
 use Rattle.pretree.specs.Walk.{Walk, holds, startedAt, passed, below}
 use Rattle.pretree.specs.Leg.{judges, belowPlace, rowEnd, linkEnd, Stands}
@@ -78,10 +80,10 @@ sets-append (x ∷ xs) ys l i = rw (add-suc, ← suc-add) (sets-append xs ys (se
 -- a row is written before its parts: `next` is its place
 listed-row : (i : ℕ) (e : Entry) (l r : Tree) (buffer : List ℕ) (next : ℕ)
     → sets (sets (set buffer next (e .key)) (next + 1) (listing l)) (next + 1 + size l) (listing r) ≡ sets buffer next (listing (row i e l r))
-unfolding listing
+unfolding entries
 listed-row i e l r buffer next =
     let length-left : length (listing l) ≡ size l = listing-length l in
-    rw (← length-left, sets-append (listing l) (listing r) (set buffer next (e .key)) (next + 1), add-one)
+    rw (words-append (entries l) (entries r), ← length-left, sets-append (listing l) (listing r) (set buffer next (e .key)) (next + 1), add-one)
 
 -- ---- a place and the walk that stands there
 
@@ -196,7 +198,7 @@ module _ (rows : ℕ → Rows.Row) (n : ℕ) where
       child = belowPlace (ofPlace (rows i) mask) (rows i) s
 
       abbrev child-walk : Walk
-      child-walk = passed here key (bitOf s) (link (rows i) s)
+      child-walk = passed here (entryOf (rows i)) (bitOf s) (link (rows i) s)
 
       pub child-stands : Stands child child-walk
       child-stands = below-stands (ofPlace (rows i) mask) here of-stands m bits (rows i) s here refl refl
@@ -214,8 +216,8 @@ module _ (rows : ℕ → Rows.Row) (n : ℕ) where
   unfolding unfolded
   unfolded-few zero path low i = go (judged n zero path low i (rows i))
     where
-      go : (b : Bool) → counted (if b then row i (record { key = rows i .entry .key }) none none else damaged) ≤ 2 ^ 1
-      go true = rw (counted-row i (record { key = rows i .entry .key }) none none, counted-none) (omega arith)
+      go : (b : Bool) → counted (if b then row i (entryOf (rows i)) none none else damaged) ≤ 2 ^ 1
+      go true = rw (counted-row i (entryOf (rows i)) none none, counted-none) (omega arith)
       go false = rw counted-damaged (omega arith)
   unfolded-few (suc m) path low i = go (λ p l j. unfolded-few m p l j) (judged n (suc m) path low i (rows i))
     where
@@ -228,11 +230,11 @@ module _ (rows : ℕ → Rows.Row) (n : ℕ) where
       side-few : Few → (s : Side) → counted (part s) ≤ 2 ^ suc m
       side-few few s = linked-few _ (2 ^ suc m) (pow-pos (suc m)) (few (path * 2 + bitOf s) (suc (rows i .entry .key))) (link (rows i) s)
 
-      go : Few → (b : Bool) → counted (if b then row i (record { key = rows i .entry .key }) (part left) (part right) else damaged) ≤ 2 ^ suc (suc m)
+      go : Few → (b : Bool) → counted (if b then row i (entryOf (rows i)) (part left) (part right) else damaged) ≤ 2 ^ suc (suc m)
       go few true =
           let twice : 2 ^ suc (suc m) ≡ 2 ^ suc m * 2 = pow-suc 2 (suc m) in
           let most = both-few (counted (part left)) (counted (part right)) (2 ^ suc m) (side-few few left) (side-few few right) in
-          rw (counted-row i (record { key = rows i .entry .key }) (part left) (part right)) (omega arith)
+          rw (counted-row i (entryOf (rows i)) (part left) (part right)) (omega arith)
       go few false = rw counted-damaged (omega arith)
 
   below-few : (m i : ℕ) (s : Side) → counted (below rows n (suc m) i s) ≤ 2 ^ suc m
@@ -335,7 +337,7 @@ module _ (rows : ℕ → Rows.Row) (n : ℕ) where
       links-fit = omega (arith, side-few left, twice, c .room)
 
       sum-so : total ≡ joined links (both (side-count left) (side-count right))
-      sum-so = c .sum ∙ rw (counted-row (c .i) (record { key = rows (c .i) .entry .key }) (below rows n (c .standing .bits) (c .i) left) (below rows n (c .standing .bits) (c .i) right), side-shows left, side-shows right)
+      sum-so = c .sum ∙ rw (counted-row (c .i) (entryOf (rows (c .i))) (below rows n (c .standing .bits) (c .i) left) (below rows n (c .standing .bits) (c .i) right), side-shows left, side-shows right)
 
       pub left-damage : side-count left ≡ 0 → total ≡ 0
       left-damage e = sum-so ∙ rw e
@@ -471,12 +473,12 @@ module _ (rows : ℕ → Rows.Row) (n : ℕ) where
       right-empty = side-none (c .standing .bits) right (eqb-true _ _ (zeros .1))
 
       pub writing-ends : (next + 1 ≡ start + size total) × (set buffer next (r .entry .key) ≡ sets first start (listing total))
-      unfolding size listing
+      unfolding size entries
       writing-ends = (
         let all : next + suc (size (side-part left) + size (side-part right)) ≡ start + size total = c .end in
             let few : next + 1 ≡ next + suc (size (side-part left) + size (side-part right)) = rw (left-none, right-empty) (omega arith) in
             few ∙ all,
-        let so : sets buffer next (here-row .entry .key ∷ (listing (side-part left) ++ listing (side-part right))) ≡ sets first start (listing total) = c .to-come in
+        let so : sets buffer next (here-row .entry .key ∷ words (entries (side-part left) ++ entries (side-part right))) ≡ sets first start (listing total) = c .to-come in
             rw same-key (rw (left-none, right-empty) at so),
       )
 
@@ -550,10 +552,10 @@ module _ (rows : ℕ → Rows.Row) (n : ℕ) where
         all-written =
             let second-so : second ≡ sets (set buffer next (here-row .entry .key)) (next + 1) (listing (side-part left))
             = leaves ∙ ap (λ (t : Tree). sets written (next + 1) (listing t)) (sym (side-so left .0)) ∙ ap (λ (k : ℕ). sets (set buffer next k) (next + 1) (listing (side-part left))) same-key in
-            rw (second-so, middle-so) (listed-row (c .i) (record { key = here-row .entry .key }) (side-part left) (side-part right) buffer next) ∙ c .to-come
+            rw (second-so, middle-so) (listed-row (c .i) (entryOf here-row) (side-part left) (side-part right) buffer next) ∙ c .to-come
 
         pub right-empty-ends : r .right ≡ 0 → (middle ≡ start + size total) × (second ≡ sets first start (listing total))
-        unfolding size listing
+        unfolding size entries
         right-empty-ends e =
             let gone : side-part right ≡ none = side-so right .0 ∙ linked-none _ (r .right) e in
             let so : sets second middle (listing (side-part right)) ≡ sets first start (listing total) = all-written in (

@@ -9,7 +9,8 @@ use lib.Dec.{ltb, eqb}
 use borrow.Author.Tests.{lt-ltb, le-leb, ltb-true}
 use Rattle.ordered.specs.Such.{if_then_else_}
 use Rattle.ordered.specs.Word.{Side, left, right, side}
-use Rattle.ordered.specs.Tree.{Tree, none, row, Entry, part}
+use Rattle.ordered.specs.Dictionary.{Entry}
+use Rattle.ordered.specs.Tree.{Tree, none, row, part}
 use Rattle.ordered.specs.Way.{Way, Step, Rule, way, passing, turning, joined, stop, to}
 use Rattle.ordered.specs.Reading.{right-left-aside}
 use Rattle.ordered.proofs.Bits.{next-bit}
@@ -17,7 +18,7 @@ use Rattle.ordered.proofs.Parts.{All, none-all, one-all, If-such, last-such-one
 use Rattle.ordered.proofs.Ways.{along, step, turns-so}
 use Rattle.pretree.specs.declared.Header.{Header}
 use Rattle.pretree.specs.declared.Row.{Row}
-use Rattle.pretree.specs.Table.{rowAt}
+use Rattle.pretree.specs.Table.{entryOf, rowAt}
 use Rattle.pretree.specs.Unfold.{judged, linked, unfolded, shown}
 use Rattle.pretree.specs.Reply.{too-wide}
 use Rattle.pretree.specs.Walk.{Walk, AtRow, isOn, holds, ended, turned, met, below, remembered, seeking, seekTurn, Walking, Walked}
@@ -67,11 +68,11 @@ takes-on rows limit k width count tree w on walking =
 
 -- and it stops at a row with a key greater than k
 pub stops-past : (k : ℕ) (w : Walk) (r : Row) → holds w r ≡ true → k < r .entry .key
-    → met w r (seekTurn (suc k) k (r .entry .key) (w .bits)) ≡ ended w AtRow (r .entry .key)
+    → met w r (seekTurn (suc k) k (r .entry .key) (w .bits)) ≡ ended w AtRow (entryOf r)
 unfolding met turned
 stops-past k w r no-damage greater = rw (no-damage, le-leb (suc k) (r .entry .key) greater) (go (eqb (w .bits) 0))
   where
-    go : (b : Bool) → (if b then ended w AtRow (r .entry .key) else turned w r (if b then stop else stop)) ≡ ended w AtRow (r .entry .key)
+    go : (b : Bool) → (if b then ended w AtRow (entryOf r) else turned w r (if b then stop else stop)) ≡ ended w AtRow (entryOf r)
     go true = refl
     go false = refl
 
@@ -110,10 +111,10 @@ module _ (rows : ℕ → Row) (n k : ℕ) where
           rw there (by-link rest (suc key) (rows i .right))
 
       by-key : Below → key / 2 ^ suc m ≡ k / 2 ^ suc m → (b : Bool) → ltb key (suc k) ≡ b
-          → All (OnWay k) (turning (way (seeking (suc k) k) m) m i (record { key = key }) (below rows n (suc m) i left) (below rows n (suc m) i right) (if b then to (side m k) else stop) .passed)
+          → All (OnWay k) (turning (way (seeking (suc k) k) m) m i (entryOf (rows i)) (below rows n (suc m) i left) (below rows n (suc m) i right) (if b then to (side m k) else stop) .passed)
       by-key rest path false h = none-all
       by-key rest path true h =
-          let here : Step = step m i (record { key = key }) (below rows n (suc m) i left) (below rows n (suc m) i right) (side m k) in
+          let here : Step = step m i (entryOf (rows i)) (below rows n (suc m) i left) (below rows n (suc m) i right) (side m k) in
           let least : key ≤ k = omega (arith, ltb-true key (suc k) h) in
           one-all {x = here} (record { least = least; on-path = path; turned = refl }) (by-side rest path (side m k) refl)
 

@@ -13,7 +13,7 @@ use Rattle.ordered.proofs.Bits.{on-root-path}
 use Rattle.pretree.specs.declared.Header.{Header}
 use Rattle.pretree.specs.declared.Row.{Row}
 use Rattle.pretree.specs.declared.leg.Place.{Place}
-use Rattle.pretree.specs.Table.{link}
+use Rattle.pretree.specs.Table.{entryOf, link}
 use Rattle.pretree.specs.Unfold.{ends-there}
 use Rattle.pretree.specs.Walk.{Walk, started, holds, passed}
 use Rattle.pretree.specs.Leg.{rootPlace, judges, belowPlace, Stands}
@@ -72,7 +72,7 @@ module _ (p : Place) (w : Walk) (st : Stands p w) where
 
     -- the place below, past the row to a side: v is the walk w, whatever it remembers
     pub below-stands : (r : Row) (s : Side) (v : Walk) → v .bits ≡ w .bits → v .path ≡ w .path
-        → Stands (belowPlace p r s) (passed v (r .entry .key) (bitOf s) (link r s))
+        → Stands (belowPlace p r s) (passed v (entryOf r) (bitOf s) (link r s))
     below-stands r s v same-bits same-path =
         record {
           row = refl;

@@ -131,7 +131,7 @@ module _ (table : List ℕ) (h : Header) (k : ℕ) (fine : wrong-header h table 
 
     -- the reply by the walk
     abbrev told : Walk → Reply
-    told w = prev-from h (rowAt table) k (w .stage) (w .key) (rowsRead w (h .width)) (w .bits) (w .path) (w .above)
+    told w = prev-from h (rowAt table) k (w .stage) (w .entry .key) (rowsRead w (h .width)) (w .bits) (w .path) (w .above)
 
     module _ (e : End) (g : EndsAt e) where
       same-bits : bits ≡ g .walk .bits
@@ -158,9 +158,9 @@ module _ (table : List ℕ) (h : Header) (k : ℕ) (fine : wrong-header h table 
         → from-last (h .width - bits + 1) ≡ prevReply h table k
     at-row r g is =
         let at : g .walk .stage ≡ AtRow = g .ends .0 in
-        let key-is : g .walk .key ≡ rowAt table (s .row) .entry .key
-        = g .ends .2 ∙ ap (λ (q : Row). q .entry .key) (g .ends .1 ∙ ap (rowAt table) (sym (g .row))) in
-        let large : ltb (g .walk .key) k ≡ false = rw key-is (not-less (rowAt table) (h .count) k s r is) in
+        let key-is : g .walk .entry .key ≡ rowAt table (s .row) .entry .key
+        = ap (λ e. e .key) (g .ends .2) ∙ ap (λ (q : Row). q .entry .key) (g .ends .1 ∙ ap (rowAt table) (sym (g .row))) in
+        let large : ltb (g .walk .entry .key) k ≡ false = rw key-is (not-less (rowAt table) (h .count) k s r is) in
         let read : h .width - bits + 1 ≡ rowsRead (g .walk) (h .width) = rw (at, same-bits (Ends.the-variants.Row r) g) in
         let so : told (g .walk) ≡ by-walk (g .walk) (rowsRead (g .walk) (h .width)) = rw (at, large) in
         replied (Ends.the-variants.Row r) g (h .width - bits + 1) read so

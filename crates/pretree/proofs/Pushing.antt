@@ -17,14 +17,14 @@ use Rattle.ordered.proofs.Ways.{and-true}
 use Rattle.ordered.proofs.Bits.{next-bit, whole-path}
 use Rattle.pretree.specs.declared.Entry.{Entry}
 use Rattle.pretree.specs.declared.Row.{Row}
-use Rattle.pretree.specs.Table.{capacity, rowAt, link, withKey}
+use Rattle.pretree.specs.Table.{fromCode, entryOf, capacity, rowAt, link, withEntry}
 use Rattle.pretree.specs.Unfold.{judged, linked, unfolded}
 use Rattle.pretree.specs.Walk.{below}
 use Rattle.pretree.specs.Add.{taking}
 use Rattle.pretree.specs.Push.{onward, takes-from, left-from, Rising}
 use Rattle.pretree.proofs.Unfolding.{path-in-key, is-damaged, is-row}
 use Rattle.pretree.proofs.Walking.{at-none}
-use Rattle.pretree.proofs.Writing.{key-length, other-row}
+use Rattle.pretree.proofs.Rows.{entry-length, entry-elsewhere}
 
 -- what rises below a number and from another on does so below a greater one and from a smaller one on
 pub rises-within : (rows : ℕ → Row) (top top′ end n i low : ℕ) → top ≤ top′ → Rising rows top end n i low → Rising rows top′ end n i 0
@@ -39,8 +39,8 @@ rises-within rows top top′ end (suc n) i low more h = (lt-of-lt-of-le (h .0) m
 -- what the way of a push says of the rows that it passes from row i on, with m bits left
 pub record Pushed (rows : ℕ → Row) (n m i low : ℕ) (v : Way) : Type 0 where
   pub number : v .bits + length (v .passed) ≡ m
-  pub takes : (e : Entry) → pushed (record { key = e .key }) (v .passed) ≡ takes-from rows (v .bits) (length (v .passed)) i e
-  pub left-key : (e : Entry) → left-over (record { key = e .key }) (v .passed) .key ≡ left-from rows (v .bits) (length (v .passed)) i e .key
+  pub takes : (e : Entry) → pushed (fromCode e) (v .passed) ≡ takes-from rows (v .bits) (length (v .passed)) i e
+  pub left-key : (e : Entry) → left-over (fromCode e) (v .passed) .key ≡ left-from rows (v .bits) (length (v .passed)) i e .key
   pub rising : Rising rows n (v .bits) (length (v .passed)) i low
 
 module _ (rows : ℕ → Row) (n : ℕ) where
@@ -53,7 +53,7 @@ module _ (rows : ℕ → Row) (n : ℕ) where
   one-pushed : (m i low : ℕ) (l r : Tree) (v : Way) → i < n → low ≤ rows i .entry .key
       → Pushed rows n m (onward rows m i) (suc (rows i .entry .key)) v
       → Pushed rows n (suc m) i low
-      (passing (record { at = i; entry = record { key = rows i .entry .key }; turn = side m (rows i .entry .key); left-part = l; right-part = r; below = m }) v)
+      (passing (record { at = i; entry = entryOf (rows i); turn = side m (rows i .entry .key); left-part = l; right-part = r; below = m }) v)
   unfolding pushed left-over takes-from left-from Rising
   one-pushed m i low l r v used risen p =
       record {
@@ -158,7 +158,7 @@ module _ (table₀ : List ℕ) (end n₀ i₀ : ℕ) (e₀ : Entry) where
     unfolding Rising
     next-row = p .untouched i (p .ahead .1)
 
-    pub keeps-push : Pushes table₀ end n₀ i₀ e₀ (withKey i (e .key) table) n (onward (rowAt table) (end + n) i) (rowAt table i .entry)
+    pub keeps-push : Pushes table₀ end n₀ i₀ e₀ (withEntry i (fromCode e) table) n (onward (rowAt table) (end + n) i) (rowAt table i .entry)
     unfolding Rising takes-from left-from taking
     keeps-push =
         rw next-row
@@ -168,10 +168,10 @@ module _ (table₀ : List ℕ) (end n₀ i₀ : ℕ) (e₀ : Entry) where
           untouched =
               λ j l.
               let apart : j ≡ i → ⊥ = λ same. omega (arith, ap (λ (x : ℕ). rowAt table₀ x .entry .key) same) in
-              other-row i (e .key) table j apart ∙ p .untouched j (le-trans (p .ahead .1) (le-of-lt l));
+              entry-elsewhere i table j apart (fromCode e) ∙ p .untouched j (le-trans (p .ahead .1) (le-of-lt l));
           takes = p .takes;
           left = p .left;
-          same-length = key-length i (e .key) table ∙ p .same-length;
+          same-length = entry-length i (fromCode e) table ∙ p .same-length;
         })
 
   -- where no row is left, all have taken their entries

@@ -10,20 +10,22 @@ use lib.ListN.{length}
 use borrow.Author.Tests.{ltb-true, leb-true, eqb-false}
 use Rattle.ordered.specs.Such.{if_then_else_}
 use Rattle.ordered.specs.Word.{Side, left, right, bitOf}
-use Rattle.ordered.specs.Tree.{Tree, row, damaged, Entry, part}
+use Rattle.ordered.specs.Dictionary.{Entry}
+use Rattle.ordered.specs.Tree.{Tree, row, damaged, part}
 use Rattle.ordered.specs.Way.{Way, Step, way, down, isDamaged, to}
 use Rattle.ordered.specs.Change.{raised, entryAt}
 use Rattle.ordered.proofs.Ways.{along, At-end, Onward, and-true}
 use Rattle.pretree.specs.declared.Row.{Row}
 use Rattle.ordered.specs.Way.{stop, to}
-use Rattle.pretree.specs.Table.{capacity, rowAt, link, withKey}
+use Rattle.pretree.specs.Table.{entryOf, capacity, rowAt, link, withEntry}
 use Rattle.pretree.specs.Unfold.{judged, linked, unfolded}
 use Rattle.pretree.specs.Walk.{below, downTurn}
 use Rattle.pretree.specs.Add.{taking}
 use Rattle.pretree.specs.Erased.{beneath, raising, Rises}
 use Rattle.pretree.proofs.Unfolding.{is-damaged, is-row}
 use Rattle.pretree.proofs.Falling.{down-says}
-use Rattle.pretree.proofs.Writing.{same-capacity, key-length, other-row}
+use Rattle.pretree.proofs.Writing.{same-capacity}
+use Rattle.pretree.proofs.Rows.{entry-length, entry-elsewhere}
 
 -- the link that the way follows is the one below, and there is one
 record Follows (r : Row) (s : Side) (below : ℕ) : Type 0 where
@@ -64,13 +66,13 @@ module _ (rows : ℕ → Row) (n room : ℕ) (fits : n ≤ room) where
   -- what a stretch from row i shows, if it meets no damage: what its rows take; and they are in the table, with keys that rise
   pub record Stretch (low i : ℕ) (w : Way) : Type 0 where
     pub rising : low ≤ key i
-    pub top : topmost (w .passed) (entryAt (w .end)) ≡ record { key = key i }
+    pub top : topmost (w .passed) (entryAt (w .end)) ≡ entryOf (rows i)
     pub takes : raised (w .passed) (entryAt (w .end)) ≡ raising rows (length (w .passed)) i
     pub rises : Rises rows room (length (w .passed)) i
 
   -- what is known of a row that is no damage
   record Fine (m path low i : ℕ) (t : Tree) : Type 0 where
-    is : t ≡ row i (record { key = key i }) (below rows n m i left) (below rows n m i right)
+    is : t ≡ row i (entryOf (rows i)) (below rows n m i left) (below rows n m i right)
     in-table : i < room
     above-low : low ≤ key i
 
@@ -103,8 +105,8 @@ module _ (rows : ℕ → Row) (n room : ℕ) (fits : n ≤ room) where
   onward m i′ e l r s says rest path low i shape ok =
       let f : Fine (suc m) path low i (row i′ e l r) = fine (suc m) path low i (row i′ e l r) shape refl in
       let same : i′ ≡ i = cc in
-      let entry : e ≡ record { key = key i } = cc in
-      let turns : (downTurn left (rows i)) ≡ to s = sym (down-says rows n m i (record { key = key i }) left) ∙ (cc) in
+      let entry : e ≡ entryOf (rows i) = cc in
+      let turns : (downTurn left (rows i)) ≡ to s = sym (down-says rows n m i (entryOf (rows i)) left) ∙ (cc) in
       let g : Follows (rows i) s (beneath (rows i)) = follows (rows i) s turns in
       let part-is : part s l r ≡ below rows n (suc m) i s = by-side s (cc) (cc) in
       let linked-is = linked-some (unfolded rows n m (key i / 2 ^ suc m * 2 + bitOf s) (suc (key i))) (link (rows i) s) (g .some) in
@@ -163,14 +165,14 @@ module _ (start : List ℕ) (from steps : ℕ) (table : List ℕ) (at left : ℕ
   next-same = k .same next (le-of-lt (risen .0))
 
   -- the row at which it is takes the key below
-  pub raises-more : Raises start from steps (withKey at (rowAt start next .entry .key) table) next (left - 1)
+  pub raises-more : Raises start from steps (withEntry at (entryOf (rowAt start next)) table) next (left - 1)
   unfolding raising taking
   raises-more =
       record {
         rises = risen .1;
         rest = rw one-more at (k .rest);
-        same = λ i l. other-row at _ table i (λ e. apart i l e) ∙ k .same i (le-trans (le-of-lt (risen .0)) l);
-        long = key-length at _ table ∙ k .long;
+        same = λ i l. entry-elsewhere at table i (λ e. apart i l e) _ ∙ k .same i (le-trans (le-of-lt (risen .0)) l);
+        long = entry-length at _ table ∙ k .long;
       }
     where
       apart : (i : ℕ) → rowAt start next .entry .key ≤ rowAt start i .entry .key → i ≡ at → ⊥

@@ -19,7 +19,7 @@ use Rattle.pretree.specs.declared.Row.{Row}
 use Rattle.pretree.specs.Walk.{Stage}
 use Rattle.pretree.specs.Walk.{On, AtNone, AtRow, AtDamage}
 use Rattle.pretree.specs.Walk.{Walk}
-use Rattle.pretree.specs.Table.{rowAt}
+use Rattle.pretree.specs.Table.{entryOf, rowAt}
 use Rattle.pretree.specs.Unfold.{judged, linked, unfolded, shown}
 use Rattle.pretree.specs.Walk.{isOn, endRead, ended, met, treeAt, to-come, below, remembered, Goes, Placed, Walked}
 use Rattle.pretree.specs.Resume.{isDamage, again, resumed, Going}
@@ -33,7 +33,7 @@ module _ (rows : ℕ → Row) (f : Rule) (width count : ℕ) (whole : Way) (w : 
 
   pub keeps-on : (t : Turn)
       → ((m : ℕ) → w .bits ≡ suc m
-      → f m (record { key = rows (w .row) .entry .key }) (below rows (w .count) (suc m) (w .row) left) (below rows (w .count) (suc m) (w .row) right)
+      → f m (entryOf (rows (w .row))) (below rows (w .count) (suc m) (w .row) left) (below rows (w .count) (suc m) (w .row) right)
       ≡ t)
       → Going rows f width count whole (met w (rows (w .row)) t)
   keeps-on t says =
@@ -51,7 +51,7 @@ module _ (rows : ℕ → Row) (f g : Rule) (width count : ℕ) (tree : Tree) (w 
   abbrev both : Way
   both = joined first (way g (first .bits) (first .end))
 
-  joined-goes : (t : Tree) (stage : Stage) → Goes rows width first w (ending (w .bits) t) → Goes rows width both (ended w stage (w .key)) (way g (w .bits) t)
+  joined-goes : (t : Tree) (stage : Stage) → Goes rows width first w (ending (w .bits) t) → Goes rows width both (ended w stage (w .entry)) (way g (w .bits) t)
   unfolding joined last-such
   joined-goes t stage k =
       rw (← k .end, ← k .bits)
@@ -67,11 +67,11 @@ module _ (rows : ℕ → Row) (f g : Rule) (width count : ℕ) (tree : Tree) (w 
   resumes k = by-stage (w .stage) (k .ended) (k .walking .placed) (k .walking .goes)
     where
       with-coming : (stage : Stage) (t : Tree) → Goes rows width first w (ending (w .bits) t)
-          → way g (w .bits) t ≡ to-come rows g (ended w stage (w .key)) stage → Placed rows (ended w stage (w .key)) stage
-          → Going rows g width (w .count) both (ended w stage (w .key))
+          → way g (w .bits) t ≡ to-come rows g (ended w stage (w .entry)) stage → Placed rows (ended w stage (w .entry)) stage
+          → Going rows g width (w .count) both (ended w stage (w .entry))
       with-coming stage t h e p =
           record {
-            goes = subst (λ (c : Way). Goes rows width both (ended w stage (w .key)) c) e (joined-goes t stage h);
+            goes = subst (λ (c : Way). Goes rows width both (ended w stage (w .entry)) c) e (joined-goes t stage h);
             placed = p;
             memory =
                 record { above-used = k .walking .memory .above-used; aside-used = k .walking .memory .aside-used };
@@ -80,7 +80,7 @@ module _ (rows : ℕ → Row) (f g : Rule) (width count : ℕ) (tree : Tree) (w 
           }
 
       by-stage : (stage : Stage) → isOn stage ≡ false → Placed rows w stage → Goes rows width first w (to-come rows f w stage)
-          → Going rows g width (w .count) both (ended w (again stage) (w .key))
+          → Going rows g width (w .count) both (ended w (again stage) (w .entry))
       by-stage On off p h = absurd (true≢false off)
       by-stage AtNone off p h = with-coming AtNone none h (at-none g (w .bits)) tt
       by-stage AtDamage off p h = with-coming AtDamage damaged h (at-damage g (w .bits)) tt
@@ -135,7 +135,7 @@ module _ (rows : ℕ → Row) (f : Rule) (n : ℕ) where
       by-link rest path low (suc j) = rest path low (suc j)
 
       by-turn : Below → i < n → (t : Turn)
-          → All Used (turning (way f m) m i (record { key = rows i .entry .key }) (below rows n (suc m) i left) (below rows n (suc m) i right) t .passed)
+          → All Used (turning (way f m) m i (entryOf (rows i)) (below rows n (suc m) i left) (below rows n (suc m) i right) t .passed)
       by-turn rest used stop = none-all
       by-turn rest used (to left) = one-all used (by-link rest _ _ (rows i .left))
       by-turn rest used (to right) = one-all used (by-link rest _ _ (rows i .right))
@@ -144,7 +144,7 @@ module _ (rows : ℕ → Row) (f : Rule) (n : ℕ) where
       by-row rest false h = rw (is-damaged rows n (suc m) path low i h) none-all
       by-row rest true h =
           rw (is-row rows n (suc m) path low i h)
-          (by-turn rest (ltb-true i n (and-true (ltb i n) _ h .0)) (f m (record { key = rows i .entry .key }) (below rows n (suc m) i left) (below rows n (suc m) i right)))
+          (by-turn rest (ltb-true i n (and-true (ltb i n) _ h .0)) (f m (entryOf (rows i)) (below rows n (suc m) i left) (below rows n (suc m) i right)))
 
 pub shown-used : (f : Rule) (h : Header) (table : List ℕ) → All (λ s. s .at < h .count) (way f (h .width) (shown h table) .passed)
 unfolding shown

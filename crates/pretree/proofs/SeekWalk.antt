@@ -9,6 +9,7 @@ use lib.Dec.{ltb, leb, eqb}
 use lib.Pow.{pow-lt, pow-pos}
 use borrow.Author.Tests.{lt-ltb, le-ltb, le-leb, lt-leb, eq-eqb, ne-eqb, ltb-true, ltb-false, eqb-true, eqb-false}
 use Rattle.ordered.specs.Such.{if_then_else_}
+use Rattle.ordered.specs.Dictionary.{Entry}
 use Rattle.ordered.specs.Word.{Side, left, right, sideOf, bitOf, side}
 use Rattle.ordered.specs.Tree.{Tree}
 use Rattle.ordered.specs.Way.{stop, to}
@@ -18,7 +19,7 @@ use Rattle.pretree.specs.declared.Row as Rows
 use Rattle.pretree.specs.declared.leg.End.{End}
 use Rattle.pretree.specs.declared.leg.End.the-variants.{None, Row, Damage}
 use Rattle.pretree.specs.declared.seek.Seek.{Seek}
-use Rattle.pretree.specs.Table.{rowAt, link}
+use Rattle.pretree.specs.Table.{entryOf, rowAt, link}
 use Rattle.pretree.specs.Unfold.{ends-there, shown}
 use Rattle.pretree.specs.Walk.{Walk, Stage, On, AtNone, AtRow, AtDamage}
 use Rattle.pretree.specs.Walk.{started, isOn, holds, ended, remembering, passed, turned, stageAt, met, seeking, seekTurn, Walking}
@@ -102,7 +103,7 @@ module _ (rows : ℕ → Rows.Row) (k : ℕ) (s : Seek) (w : Walk) (sh : Shows r
     link-shows : (v : Walk) (l : ℕ) → v .row ≡ w .row → v .bits ≡ w .bits → v .path ≡ w .path
         → past-here l .aside ≡ asideOf rows (v .any) (v .aside)
         → past-here l .span ≡ spanOf (v .any) (v .beneath)
-        → Shows rows k (past-here l) (passed v key (bitOf (side m k)) l)
+        → Shows rows k (past-here l) (passed v (entryOf here) (bitOf (side m k)) l)
     link-shows v l same-row same-bits same-path same-aside same-span =
         record {
           row = refl;
@@ -130,7 +131,7 @@ module _ (rows : ℕ → Rows.Row) (k : ℕ) (s : Seek) (w : Walk) (sh : Shows r
         to-left = tells-left _ (turns ∙ ap bitOf e)
 
         go : (b : Bool) → eqb (here .right) 0 ≡ b
-            → Shows rows k (past-here (here .left)) (passed (if b then w else remembering w) key 0 (here .left))
+            → Shows rows k (past-here (here .left)) (passed (if b then w else remembering w) (entryOf here) 0 (here .left))
         go true empty = rw e at (link-shows w (here .left) refl refl refl (rw (to-left, empty) (sh .aside)) (rw (to-left, empty) (sh .span)))
         go false some =
             rw e at
@@ -154,7 +155,7 @@ module _ (rows : ℕ → Rows.Row) (k : ℕ) (s : Seek) (w : Walk) (sh : Shows r
     Ends = SeekEnds rows h tree k s
 
     -- the walk ends where the seek is
-    ends-at : (stage : Stage) (last : ℕ) → Walks (ended w stage last) → isOn stage ≡ false → (e : End) → EndsSo rows (ended w stage last) e → Ends e
+    ends-at : (stage : Stage) (last : Entry) → Walks (ended w stage last) → isOn stage ≡ false → (e : End) → EndsSo rows (ended w stage last) e → Ends e
     ends-at stage last walks off e so =
         record {
           walk = ended w stage last;
@@ -180,7 +181,7 @@ module _ (rows : ℕ → Rows.Row) (k : ℕ) (s : Seek) (w : Walk) (sh : Shows r
         let unused : w .count ≤ w .row = omega (arith, sh .row, g .same-count) in
         let at : w .stage ≡ AtDamage
         = linked (λ e. off-root (sh .at-root e)) ∙ rw (ne-eqb (w .row) 0 off-root, le-ltb (w .row) (w .count) unused) in
-        ends-at (w .stage) (w .key) g (rw at) Damage at
+        ends-at (w .stage) (w .entry) g (rw at) Damage at
 
     module _ (used : w .row < h .count) where
       walks-on : w .stage ≡ On → Walks on-walk
@@ -206,16 +207,16 @@ module _ (rows : ℕ → Rows.Row) (k : ℕ) (s : Seek) (w : Walk) (sh : Shows r
       damaged-here : w .stage ≡ On → holds w here ≡ false → Ends Damage
       unfolding met
       damaged-here on bad =
-          let meets : on-walk ≡ ended w AtDamage key = rw bad in
-          ends-at AtDamage key (subst Walks meets (walks-on on)) refl Damage refl
+          let meets : on-walk ≡ ended w AtDamage (entryOf here) = rw bad in
+          ends-at AtDamage (entryOf here) (subst Walks meets (walks-on on)) refl Damage refl
 
       row-here : w .stage ≡ On → holds w here ≡ true → k ≤ key → Ends (Row here)
       unfolding met turned
       row-here on fine past =
-          let meets : on-walk ≡ ended w AtRow key = rw (fine, le-leb k key past) (go (eqb (w .bits) 0)) in
-          ends-at AtRow key (subst Walks meets (walks-on on)) refl (Row here) (refl, refl, refl)
+          let meets : on-walk ≡ ended w AtRow (entryOf here) = rw (fine, le-leb k key past) (go (eqb (w .bits) 0)) in
+          ends-at AtRow (entryOf here) (subst Walks meets (walks-on on)) refl (Row here) (refl, refl, refl)
         where
-          go : (b : Bool) → (if b then ended w AtRow key else turned w here (if b then stop else stop)) ≡ ended w AtRow key
+          go : (b : Bool) → (if b then ended w AtRow (entryOf here) else turned w here (if b then stop else stop)) ≡ ended w AtRow (entryOf here)
           go true = refl
           go false = refl
 
@@ -255,7 +256,7 @@ module _ (rows : ℕ → Rows.Row) (k : ℕ) (s : Seek) (w : Walk) (sh : Shows r
           go true false at-0 moved =
               let left-root : w .low ≡ 0 → ⊥ = λ e. eqb-false (s .between) k moved (omega (arith, sh .between)) in
               let nothing : w .stage ≡ AtNone = linked left-root ∙ rw (← sh .row, at-0) in
-              ends-at (w .stage) (w .key) g (rw nothing) None nothing
+              ends-at (w .stage) (w .entry) g (rw nothing) None nothing
           go false b not-0 between =
               let off-root : w .row ≡ 0 → ⊥ = λ e. eqb-false (s .row) 0 not-0 (sh .row ∙ e) in
               let left-root : w .low ≡ 0 → ⊥ = λ e. off-root (sh .at-root e) in

@@ -7,7 +7,8 @@ use lib.Dec.{ltb, leb, eqb, leb·suc-suc}
 use borrow.Author.Tests.{ne-eqb, lt-ltb, le-ltb, leb-true, leb-false}
 use Rattle.ordered.specs.Such.{if_then_else_}
 use Rattle.ordered.specs.Word.{Side, left, right, side}
-use Rattle.ordered.specs.Tree.{Tree, Entry}
+use Rattle.ordered.specs.Dictionary.{Entry}
+use Rattle.ordered.specs.Tree.{Tree}
 use Rattle.ordered.specs.Way.{following, passing-equal, to, stop}
 use Rattle.pretree.specs.Walk.{seeking, seekTurn}
 

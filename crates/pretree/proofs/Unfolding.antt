@@ -9,6 +9,7 @@ use Rattle.ordered.proofs.Ways.{and-true}
 use Rattle.ordered.specs.Word.{left, right}
 use Rattle.ordered.specs.Tree.{row, damaged, exists}
 use Rattle.pretree.specs.declared.Row.{Row}
+use Rattle.pretree.specs.Table.{entryOf}
 use Rattle.pretree.specs.Unfold.{judged, linked, unfolded}
 use Rattle.pretree.specs.Walk.{below}
 
@@ -30,12 +31,12 @@ module _ (rows : ℕ → Row) (n : ℕ) where
 
     -- a row that is no damage has its path in its key, and shows its parts
     pub is-row : judged n m path low i (rows i) ≡ true
-        → unfolded rows n m path low i ≡ row i (record { key = rows i .entry .key }) (below rows n m i left) (below rows n m i right)
+        → unfolded rows n m path low i ≡ row i (entryOf (rows i)) (below rows n m i left) (below rows n m i right)
     unfolding unfolded
     is-row h = go m h
       where
         go : (m : ℕ) → judged n m path low i (rows i) ≡ true
-            → unfolded rows n m path low i ≡ row i (record { key = rows i .entry .key }) (below rows n m i left) (below rows n m i right)
+            → unfolded rows n m path low i ≡ row i (entryOf (rows i)) (below rows n m i left) (below rows n m i right)
         go zero h = rw h
         go (suc m) h = rw (h, path-in-key n (suc m) path low i (rows i) h)
 

@@ -9,7 +9,8 @@ use lib.Dec.{ltb, eqb}
 use borrow.Author.Tests.{lt-ltb, le-ltb, ne-eqb, ltb-true, eqb-true, eqb-false}
 use Rattle.ordered.specs.Such.{if_then_else_, no-such, such, first-of, last-such, anything}
 use Rattle.ordered.specs.Word.{Side, left, right, sideOf, bitOf, isSide}
-use Rattle.ordered.specs.Tree.{Tree, none, row, damaged, Entry, part}
+use Rattle.ordered.specs.Dictionary.{Entry}
+use Rattle.ordered.specs.Tree.{Tree, none, row, damaged, part}
 use Rattle.ordered.specs.Way.{Way, Step, Rule, way, ending, passing, stop, to}
 use Rattle.ordered.specs.Reading.{right-left-aside}
 use Rattle.ordered.proofs.Parts.{first-of-assoc, first-of-no-such}
@@ -20,7 +21,7 @@ use Rattle.pretree.specs.Walk.{On, AtNone, AtRow, AtDamage}
 use Rattle.ordered.specs.Way.{Turn}
 use Rattle.ordered.specs.Way.{stop, to}
 use Rattle.pretree.specs.Walk.{Walk}
-use Rattle.pretree.specs.Table.{rowAt, link}
+use Rattle.pretree.specs.Table.{entryOf, rowAt, link}
 use Rattle.pretree.specs.Unfold.{judged, linked, unfolded, shown}
 use Rattle.pretree.specs.Walk.{isOn, started, holds, ended, remembering, passed, turned, stageAt, met, treeAt, to-come, toCome, below, stepAt, remembered, Goes, Placed, Memory, Walking}
 use Rattle.pretree.proofs.Unfolding.{is-damaged, is-row, path-in-key, there}
@@ -79,8 +80,8 @@ module _ (rows : ℕ → Row) (f : Rule) (n m i : ℕ) (s : Side) where
   part-below left = refl
   part-below right = refl
 
-  row-passed : f m (record { key = rows i .entry .key }) (below rows n (suc m) i left) (below rows n (suc m) i right) ≡ to s
-      → way f (suc m) (row i (record { key = rows i .entry .key }) (below rows n (suc m) i left) (below rows n (suc m) i right))
+  row-passed : f m (entryOf (rows i)) (below rows n (suc m) i left) (below rows n (suc m) i right) ≡ to s
+      → way f (suc m) (row i (entryOf (rows i)) (below rows n (suc m) i left) (below rows n (suc m) i right))
       ≡ passing (stepAt rows n m i s) onward
   unfolding stepAt
   row-passed h =
@@ -94,8 +95,8 @@ last-bit path right = let odd : (path * 2 + 1) % 2 ≡ 1 = omega arith in rw odd
 
 module _ (rows : ℕ → Row) (width : ℕ) (whole : Way) (w : Walk) where
   -- a walk that ends has passed and remembers what it had
-  ended-goes : (stage : Stage) (key : ℕ) (coming : Way) → Goes rows width whole w coming → Goes rows width whole (ended w stage key) coming
-  ended-goes stage key coming g = record { end = g .end; bits = g .bits; number = g .number; above = g .above; aside = g .aside }
+  ended-goes : (stage : Stage) (entry : Entry) (coming : Way) → Goes rows width whole w coming → Goes rows width whole (ended w stage entry) coming
+  ended-goes stage entry coming g = record { end = g .end; bits = g .bits; number = g .number; above = g .above; aside = g .aside }
 
   -- a walk that passes a row has passed one more, and remembers it
   module _ (m : ℕ) (s : Side) (coming : Way) (e : w .bits ≡ suc m) (fits : suc m ≤ width)
@@ -104,12 +105,12 @@ module _ (rows : ℕ → Row) (width : ℕ) (whole : Way) (w : Walk) where
     here = stepAt rows (w .count) m (w .row) s
 
     -- with what it remembers aside, if that is right
-    remembers : (v : Walk) (key l : ℕ) → v .bits ≡ suc m → v .row ≡ w .row → v .count ≡ w .count
+    remembers : (v : Walk) (entry : Entry) (l : ℕ) → v .bits ≡ suc m → v .row ≡ w .row → v .count ≡ w .count
         → first-of (last-such right-left-aside (coming .passed)) (remembered rows (v .count) (v .any) (v .beneath) (v .aside) left)
         ≡ last-such right-left-aside (whole .passed)
-        → Goes rows width whole (passed v key (bitOf s) l) coming
+        → Goes rows width whole (passed v entry (bitOf s) l) coming
     unfolding last-such
-    remembers v key l bits same-row same-count aside =
+    remembers v entry l bits same-row same-count aside =
         let less : pred (v .bits) ≡ m = rw bits in
         record {
           end = g .end;
@@ -145,14 +146,14 @@ module _ (rows : ℕ → Row) (width : ℕ) (whole : Way) (w : Walk) where
       aside-is = here-aside m left coming e fits g
 
       go : (b : Bool) → eqb (rows (w .row) .right) 0 ≡ b
-          → Goes rows width whole (passed (if b then w else remembering w) (rows (w .row) .entry .key) 0 (rows (w .row) .left)) coming
+          → Goes rows width whole (passed (if b then w else remembering w) (entryOf (rows (w .row))) 0 (rows (w .row) .left)) coming
       go true h = remembers m left coming e fits g w _ _ e refl refl (aside-with m left coming e fits g false (aside-is ∙ rw h))
       go false h = remembers m left coming e fits g (remembering w) _ _ e refl refl (rw e (aside-with m left coming e fits g true (aside-is ∙ rw h)))
 
 -- what is to come after a row is passed
-module _ (rows : ℕ → Row) (f : Rule) (m key bit l : ℕ) where
+module _ (rows : ℕ → Row) (f : Rule) (m : ℕ) (entry : Entry) (bit l : ℕ) where
   comes : (v : Walk) (stage : Stage) → v .bits ≡ suc m
-      → to-come rows f (passed v key bit l) stage ≡ led rows f (v .count) m (v .path * 2 + bit) (suc key) l stage
+      → to-come rows f (passed v entry bit l) stage ≡ led rows f (v .count) m (v .path * 2 + bit) (suc (entry .key)) l stage
   comes v On e = rw e
   comes v AtNone e = rw e
   comes v AtRow e = rw e
@@ -162,14 +163,14 @@ turned-comes : (rows : ℕ → Row) (f : Rule) (w : Walk) (m : ℕ) (s : Side) (
     → toCome rows f (turned w r (to s))
     ≡ led rows f (w .count) m (w .path * 2 + bitOf s) (suc (r .entry .key)) (link r s) (stageAt (w .count) (link r s))
 unfolding turned
-turned-comes rows f w m right r e = comes rows f m (r .entry .key) 1 (r .right) w (stageAt (w .count) (r .right)) e
+turned-comes rows f w m right r e = comes rows f m (entryOf r) 1 (r .right) w (stageAt (w .count) (r .right)) e
 turned-comes rows f w m left r e = go (eqb (r .right) 0)
   where
     go : (b : Bool)
-        → toCome rows f (passed (if b then w else remembering w) (r .entry .key) 0 (r .left))
+        → toCome rows f (passed (if b then w else remembering w) (entryOf r) 0 (r .left))
         ≡ led rows f (w .count) m (w .path * 2 + 0) (suc (r .entry .key)) (r .left) (stageAt (w .count) (r .left))
-    go true = comes rows f m (r .entry .key) 0 (r .left) w (stageAt (w .count) (r .left)) e
-    go false = comes rows f m (r .entry .key) 0 (r .left) (remembering w) (stageAt (w .count) (r .left)) e
+    go true = comes rows f m (entryOf r) 0 (r .left) w (stageAt (w .count) (r .left)) e
+    go false = comes rows f m (entryOf r) 0 (r .left) (remembering w) (stageAt (w .count) (r .left)) e
 
 -- what is to be shown of the walk v after a row that the walk w wanted
 pub record AfterRow (rows : ℕ → Row) (f : Rule) (width : ℕ) (whole : Way) (w v : Walk) : Type 0 where
@@ -184,6 +185,9 @@ module _ (rows : ℕ → Row) (f : Rule) (width : ℕ) (whole : Way) (w : Walk) 
   abbrev here-row : Row
   here-row = rows (w .row)
 
+  abbrev entry : Entry
+  entry = entryOf here-row
+
   abbrev key : ℕ
   key = here-row .entry .key
 
@@ -195,33 +199,33 @@ module _ (rows : ℕ → Row) (f : Rule) (width : ℕ) (whole : Way) (w : Walk) 
   judged-is b h = rw (lt-ltb (w .row) (w .count) used) h
 
   abbrev shows : holds w here-row ≡ true
-      → treeAt rows w ≡ row (w .row) (record { key = key }) (below rows (w .count) (w .bits) (w .row) left) (below rows (w .count) (w .bits) (w .row) right)
+      → treeAt rows w ≡ row (w .row) entry (below rows (w .count) (w .bits) (w .row) left) (below rows (w .count) (w .bits) (w .row) right)
   shows h = is-row rows (w .count) (w .bits) (w .path) (w .low) (w .row) (judged-is true h)
 
   with-coming : (v : Walk) (coming : Way) → coming ≡ toCome rows f v → Goes rows width whole v coming → Goes rows width whole v (toCome rows f v)
   with-coming v coming e h = subst (λ (c : Way). Goes rows width whole v c) e h
 
-  ends : (stage : Stage) → way f (w .bits) (treeAt rows w) ≡ toCome rows f (ended w stage key) → Placed rows (ended w stage key) stage → After (ended w stage key)
+  ends : (stage : Stage) → way f (w .bits) (treeAt rows w) ≡ toCome rows f (ended w stage entry) → Placed rows (ended w stage entry) stage → After (ended w stage entry)
   ends stage e p =
       record {
-        goes = with-coming _ _ e (ended-goes rows width whole w stage key _ g);
+        goes = with-coming _ _ e (ended-goes rows width whole w stage entry _ g);
         placed = p;
         memory = record { above-used = mem .above-used; aside-used = mem .aside-used };
         within = fits;
         same-count = refl;
       }
 
-  link-placed : (v : Walk) (bit l : ℕ) → Placed rows (passed v key bit l) (stageAt (v .count) l)
+  link-placed : (v : Walk) (bit l : ℕ) → Placed rows (passed v entry bit l) (stageAt (v .count) l)
   link-placed v bit l = go (eqb l 0) (ltb l (v .count)) refl
     where
-      go : (b c : Bool) → ltb l (v .count) ≡ c → Placed rows (passed v key bit l) (if b then AtNone else if c then On else AtDamage)
+      go : (b c : Bool) → ltb l (v .count) ≡ c → Placed rows (passed v entry bit l) (if b then AtNone else if c then On else AtDamage)
       go true c h = tt
       go false true h = ltb-true l (v .count) h
       go false false h = tt
 
   passed-after : (v : Walk) (bit l : ℕ) → v .bits ≡ w .bits → v .count ≡ w .count → v .row ≡ w .row
       → (v .any ≡ true → (v .aside < w .count) × (v .beneath < width))
-      → Goes rows width whole (passed v key bit l) (toCome rows f (passed v key bit l)) → After (passed v key bit l)
+      → Goes rows width whole (passed v entry bit l) (toCome rows f (passed v entry bit l)) → After (passed v entry bit l)
   passed-after v bit l bits same-count same-row aside h =
       record {
         goes = h;
@@ -238,7 +242,7 @@ module _ (rows : ℕ → Row) (f : Rule) (width : ℕ) (whole : Way) (w : Walk) 
   turned-after left some h = go (eqb (here-row .right) 0) h
     where
       go : (b : Bool)
-          → (let v : Walk = passed (if b then w else remembering w) key 0 (here-row .left) in Goes rows width whole v (toCome rows f v) → After v)
+          → (let v : Walk = passed (if b then w else remembering w) entry 0 (here-row .left) in Goes rows width whole v (toCome rows f v) → After v)
       go true h = passed-after w 0 (here-row .left) refl refl refl (mem .aside-used) h
       go false h =
           let fewer : pred (w .bits) < width = omega (arith, pos-of-ne-zero some) in
@@ -246,7 +250,7 @@ module _ (rows : ℕ → Row) (f : Rule) (width : ℕ) (whole : Way) (w : Walk) 
 
   -- what the rule says at the row, with m bits left below it
   abbrev Says : ℕ → Turn → Type 0
-  Says m t = f m (record { key = key }) (below rows (w .count) (suc m) (w .row) left) (below rows (w .count) (suc m) (w .row) right) ≡ t
+  Says m t = f m entry (below rows (w .count) (suc m) (w .row) left) (below rows (w .count) (suc m) (w .row) right) ≡ t
 
   passes-by : (m : ℕ) (s : Side) → w .bits ≡ suc m → holds w here-row ≡ true → Says m (to s) → After (turned w here-row (to s))
   passes-by m s e h says =
@@ -260,7 +264,7 @@ module _ (rows : ℕ → Row) (f : Rule) (width : ℕ) (whole : Way) (w : Walk) 
       (turned-goes rows width whole w m s _ e (rw e at fits) (subst (λ (c : Way). Goes rows width whole w c) on g)))
     where
       turn-says : (s : Side) → Says m (to s)
-          → f m (record { key = key }) (below rows (w .count) (suc m) (w .row) left) (below rows (w .count) (suc m) (w .row) right) ≡ to s
+          → f m entry (below rows (w .count) (suc m) (w .row) left) (below rows (w .count) (suc m) (w .row) right) ≡ to s
       turn-says left h = h
       turn-says right h = h
 
@@ -275,13 +279,13 @@ module _ (rows : ℕ → Row) (f : Rule) (width : ℕ) (whole : Way) (w : Walk) 
   unfolding met
   meets t says = by-row (holds w here-row) refl
     where
-      by-bits : (b : Bool) → eqb (w .bits) 0 ≡ b → holds w here-row ≡ true → After (if b then ended w AtRow key else turned w here-row t)
+      by-bits : (b : Bool) → eqb (w .bits) 0 ≡ b → holds w here-row ≡ true → After (if b then ended w AtRow entry else turned w here-row t)
       by-bits true zero-left h = ends AtRow (at-bottom f (treeAt rows w) (w .bits) (eqb-true (w .bits) 0 zero-left)) (used, h, refl)
       by-bits false some h =
           let e : w .bits ≡ suc (pred (w .bits)) = omega (arith, pos-of-ne-zero (eqb-false (w .bits) 0 some)) in
           by-turn (pred (w .bits)) t e h (says (pred (w .bits)) e)
 
-      by-row : (b : Bool) → holds w here-row ≡ b → After (if not b then ended w AtDamage key else if eqb (w .bits) 0 then ended w AtRow key else turned w here-row t)
+      by-row : (b : Bool) → holds w here-row ≡ b → After (if not b then ended w AtDamage entry else if eqb (w .bits) 0 then ended w AtRow entry else turned w here-row t)
       by-row false h = ends AtDamage (rw (is-damaged rows (w .count) (w .bits) (w .path) (w .low) (w .row) (judged-is false h)) (at-damage f (w .bits))) tt
       by-row true h = by-bits (eqb (w .bits) 0) refl h
 
@@ -299,7 +303,7 @@ module _ (rows : ℕ → Row) (f : Rule) (width count : ℕ) (tree : Tree) (w : 
   -- a walk that is on its way is so after the row that it wants, if it makes the turn that its rule says
   pub keeps : (t : Turn)
       → ((m : ℕ) → w .bits ≡ suc m
-      → f m (record { key = rows (w .row) .entry .key }) (below rows count (suc m) (w .row) left) (below rows count (suc m) (w .row) right) ≡ t)
+      → f m (entryOf (rows (w .row))) (below rows count (suc m) (w .row) left) (below rows count (suc m) (w .row) right) ≡ t)
       → Walking rows f width count tree (met w (rows (w .row)) t)
   keeps t says =
       let stage : w .stage ≡ On = is-on (w .stage) on in

@@ -11,7 +11,7 @@ use lib.Seq.{sets, sets-eq}
 use borrow.Author.Tests.{ltb-true, lt-ltb, le-ltb, eqb-true, eqb-false, eq-eqb, ne-eqb}
 use Rattle.ordered.specs.Such.{if_then_else_}
 use Rattle.ordered.specs.Word.{Side, left, right, bitOf}
-use Rattle.ordered.specs.Tree.{Tree, none, row, damaged, intact, size, listing}
+use Rattle.ordered.specs.Tree.{Tree, none, row, damaged, intact, size, entries, listing}
 use Rattle.ordered.proofs.Ways.{and-true}
 use Rattle.ordered.proofs.OneTree.{listing-length}
 use Rattle.pretree.specs.declared.Header.{Header}
@@ -19,7 +19,7 @@ use Rattle.pretree.specs.declared.Answer.the-variants as Answers
 use Rattle.pretree.specs.declared.Reply.{Reply}
 use Rattle.pretree.specs.declared.Row as Rows
 use Rattle.pretree.specs.declared.leg.End.the-variants.{Row, Damage}
-use Rattle.pretree.specs.Table.{capacity, rowAt, link}
+use Rattle.pretree.specs.Table.{entryOf, capacity, rowAt, link}
 use Rattle.pretree.specs.Unfold.{judged, linked, unfolded, shown}
 use Rattle.pretree.specs.Sound.{isSound}
 use Rattle.pretree.specs.Reply.{wrong-header, refused, answered}
@@ -54,7 +54,7 @@ module _ (rows : ℕ → Rows.Row) (n more : ℕ) (fewer : n ≤ more) where
   unfolding intact
   row-same m same i whole =
       let parts = and-true (intact (below rows n m i left)) (intact (below rows n m i right)) whole in
-      ap₂ (row i (record { key = rows i .entry .key })) (same i left (parts .0)) (same i right (parts .1))
+      ap₂ (row i (entryOf (rows i))) (same i left (parts .0)) (same i right (parts .1))
 
   unfolded-same : (m : ℕ) → Same m → (path low i : ℕ) → intact (unfolded rows n m path low i) ≡ true → unfolded rows more m path low i ≡ unfolded rows n m path low i
   unfolding intact
@@ -201,7 +201,7 @@ module _ (h : Header) (table buffer : List ℕ) where
 
       module _ (room : h .count ≤ length buffer) where
         pub lists-none : h .count ≡ 0 → Lists (answered h Answers.Done (h .count)) buffer
-        unfolding listReply listBuffer listing
+        unfolding listReply listBuffer entries
         lists-none empty = rw (right-there, sound, le-ltb _ _ room) (refl, rw (none-shown h table empty, empty))
 
         pub lists-all : (h .count ≡ 0 → ⊥) → Lists (answered h Answers.Done (h .count)) (sets buffer 0 (listing (rootTree h table (capacity table))))

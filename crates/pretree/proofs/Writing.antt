@@ -1,13 +1,12 @@
--- Where a row's words stand; and what a write leaves as it was: the capacity, and the rows that it does not write.
-use Prim.Native.Nat.{ℕ, zero, suc, _+_, _*_, _<_}
+-- Where a row's words stand in a table.
+use Prim.Native.Nat.{ℕ, zero, suc, _+_, _*_, _≤_, _<_}
 use mathlib.Core.Path.{_≡_, refl}
 use mathlib.Core.List.{List}
 use native.Mathlib.Nat.{add-zero}
 use native.Mathlib.Omega.{arith}
-use lib.ListN.{length, getD, length-set}
-use lib.Seq.{getD-set-other}
+use lib.ListN.{length, getD}
 use Rattle.ordered.specs.Word.{sideOf, bitOf}
-use Rattle.pretree.specs.Table.{capacity, rowAt, link, withKey}
+use Rattle.pretree.specs.Table.{rowWords, capacity, rowAt, link}
 
 -- a bit is that of the side to which it goes
 pub bit-of-side : (b : ℕ) → b < 2 → bitOf (sideOf b) ≡ b
@@ -15,15 +14,15 @@ bit-of-side zero h = refl
 bit-of-side (suc b) h = omega arith
 
 -- the link on a side
-pub link-read : (table : List ℕ) (i b : ℕ) → b < 2 → getD table (3 * i + 1 + b) 0 ≡ link (rowAt table i) (sideOf b)
+pub link-read : (table : List ℕ) (i b : ℕ) → b < 2 → getD table (rowWords * i + 1 + b) 0 ≡ link (rowAt table i) (sideOf b)
 unfolding rowAt
-link-read table i zero h = rw (add-zero (3 * i + 1))
-link-read table i (suc zero) h = let two : 3 * i + 1 + 1 ≡ 3 * i + 2 = omega arith in rw two
+link-read table i zero h = rw (add-zero (rowWords * i + 1))
+link-read table i (suc zero) h = let two : rowWords * i + 1 + 1 ≡ rowWords * i + 2 = omega arith in rw two
 link-read table i (suc (suc b)) h = omega arith
 
--- the three words of a row below the capacity are in the table, and their numbers are small
+-- the words of a row below the capacity are in the table, and their numbers are small
 pub record RowWords (table : List ℕ) (i : ℕ) : Type 0 where
-  pub within : 3 * i + 2 < length table
+  pub within : rowWords * i + rowWords ≤ length table
   pub few : i < 65535
 
 pub row-words : (table : List ℕ) (i : ℕ) → i < capacity table → RowWords table i
@@ -34,15 +33,3 @@ row-words table i h = record { within = omega arith; few = omega arith }
 pub same-capacity : (a b : List ℕ) → length a ≡ length b → capacity a ≡ capacity b
 unfolding capacity
 same-capacity a b e = rw e
-
-pub key-length : (i k : ℕ) (table : List ℕ) → length (withKey i k table) ≡ length table
-unfolding withKey
-key-length i k table = length-set table (3 * i) k
-
-pub other-row : (i k : ℕ) (table : List ℕ) (j : ℕ) → (j ≡ i → ⊥) → rowAt (withKey i k table) j ≡ rowAt table j
-unfolding rowAt withKey
-other-row i k table j apart =
-    let at : 3 * j ≡ 3 * i → ⊥ = λ e. omega arith in
-    let at1 : 3 * j + 1 ≡ 3 * i → ⊥ = λ e. omega arith in
-    let at2 : 3 * j + 2 ≡ 3 * i → ⊥ = λ e. omega arith in
-    rw (getD-set-other table (3 * i) (3 * j) k 0, getD-set-other table (3 * i) (3 * j + 1) k 0, getD-set-other table (3 * i) (3 * j + 2) k 0)

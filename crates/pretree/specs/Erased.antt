@@ -15,7 +15,7 @@ use Rattle.pretree.specs.declared.leg.Place.{Place}
 use Rattle.pretree.specs.declared.erase.Hook.{Hook}
 use Rattle.pretree.specs.declared.erase.Hole.{Hole}
 use Rattle.pretree.specs.declared.erase.Move.{Move}
-use Rattle.pretree.specs.Table.{capacity, rowAt, hooked, withRow, cleared}
+use Rattle.pretree.specs.Table.{capacity, rowAt, entryOf, hooked, withRow, cleared}
 use Rattle.pretree.specs.Unfold.{shown}
 use Rattle.pretree.specs.Walk.{Walk, seeking, Walked}
 use Rattle.pretree.specs.Resume.{endsAt}
@@ -31,7 +31,7 @@ keyIn table i = rowAt table i .entry .key
 pub record RowOfKey (h : Header) (table : List ℕ) (k : ℕ) (at : Place) (row-above : ℕ) : Type 0 where
   pub walk : Walk
   pub walked : Walked (rowAt table) (seeking k k) (h .width) (h .count) (shown h table) walk
-  pub there : endsAt k (walk .key) (walk .stage) ≡ true
+  pub there : endsAt k (walk .entry .key) (walk .stage) ≡ true
   pub stands : Stands at walk
   pub above : row-above ≡ walk .above
 
@@ -59,7 +59,7 @@ unfoldable pub raising : (ℕ → Row) → ℕ → ℕ → List Take
 raising rows zero i = []
 raising rows (suc s) i =
     let below : ℕ = beneath (rows i) in
-    record { at = i; entry = record { key = rows below .entry .key } } ∷ raising rows s below
+    record { at = i; entry = entryOf (rows below) } ∷ raising rows s below
 
 -- they are among the first n, and their keys rise
 unfoldable pub Rises : (ℕ → Row) → ℕ → ℕ → ℕ → Type 0

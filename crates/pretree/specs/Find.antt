@@ -4,7 +4,7 @@ use Prim.Native.Nat.{ℕ}
 use mathlib.Core.Bool.{Bool, true, false}
 use mathlib.Core.List.{List}
 use Rattle.ordered.specs.Such.{if_then_else_, Perhaps, no-such, such}
-use Rattle.ordered.specs.Reading.{Reading, rowsOf, brokenIn, has, next, prev, first, last, gap}
+use Rattle.ordered.specs.Reading.{Found, wordIn, Reading, rowsOf, brokenIn, has, next, prev, first, last, gap}
 use Rattle.pretree.specs.declared.Header.{Header}
 use Rattle.pretree.specs.declared.Answer.{Answer}
 use Rattle.pretree.specs.declared.Answer.the-variants.{Done, Word, Distance, WrongHeader, WordTooWide, Damage, NoSuchWord}
@@ -13,35 +13,38 @@ use Rattle.pretree.specs.Unfold.{shown}
 use Rattle.pretree.specs.Reply.{wrong-header, too-wide, refused, answered}
 
 -- how what was found is answered: 0, by a case of its own, or 8
-abbrev pub saying : (ℕ → Answer) → Perhaps ℕ → Answer
-saying word (such x) = word x
-saying word no-such = NoSuchWord
+abbrev pub saying : {A : Type 0} → (A → Answer) → Perhaps A → Answer
+saying answer (such x) = answer x
+saying answer no-such = NoSuchWord
 
-abbrev pub done : ℕ → Answer
-done x = Done
+abbrev pub done : Found → Answer
+done f = Done
+
+abbrev pub word : Found → Answer
+word f = Word (wordIn f)
 
 -- a call that reads, with the checks that document 01 puts before it
-abbrev pub read-reply : Header → List ℕ → Bool → (ℕ → Answer) → Reading → Reply
-read-reply h table wide word r =
+abbrev pub read-reply : {A : Type 0} → Header → List ℕ → Bool → (A → Answer) → Reading A → Reply
+read-reply h table wide answer r =
     if wrong-header h table then refused h WrongHeader
     else if wide then refused h WordTooWide
     else if brokenIn (r .ways) then refused h Damage
-    else answered h (saying word (r .answer)) (rowsOf (r .ways))
+    else answered h (saying answer (r .answer)) (rowsOf (r .ways))
 
 unfoldable pub hasReply : Header → List ℕ → ℕ → Reply
 hasReply h table k = read-reply h table (too-wide h k) done (has (h .width) k (shown h table))
 
 unfoldable pub nextReply : Header → List ℕ → ℕ → Reply
-nextReply h table k = read-reply h table (too-wide h k) Word (next (h .width) k (shown h table))
+nextReply h table k = read-reply h table (too-wide h k) word (next (h .width) k (shown h table))
 
 unfoldable pub prevReply : Header → List ℕ → ℕ → Reply
-prevReply h table k = read-reply h table (too-wide h k) Word (prev (h .width) k (shown h table))
+prevReply h table k = read-reply h table (too-wide h k) word (prev (h .width) k (shown h table))
 
 unfoldable pub firstReply : Header → List ℕ → Reply
-firstReply h table = read-reply h table false Word (first (h .width) (shown h table))
+firstReply h table = read-reply h table false word (first (h .width) (shown h table))
 
 unfoldable pub lastReply : Header → List ℕ → Reply
-lastReply h table = read-reply h table false Word (last (h .width) (shown h table))
+lastReply h table = read-reply h table false word (last (h .width) (shown h table))
 
 unfoldable pub gapReply : Header → List ℕ → ℕ → Reply
 gapReply h table k = read-reply h table (too-wide h k) Distance (gap (h .width) k (shown h table))

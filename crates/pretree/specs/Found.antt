@@ -7,7 +7,7 @@ use lib.Dec.{ltb, eqb}
 use Rattle.ordered.specs.Such.{if_then_else_}
 use Rattle.ordered.specs.Word.{left, right, sideOf, isSide}
 use Rattle.ordered.specs.Way.{Way, way, rows, broken, staying, down}
-use Rattle.ordered.specs.Reading.{keyAt}
+use Rattle.ordered.specs.Reading.{end-row}
 use Rattle.pretree.specs.declared.Header.{Header}
 use Rattle.pretree.specs.declared.Answer.the-variants.{Done, Word, WrongHeader, WordTooWide, Damage, NoSuchWord}
 use Rattle.pretree.specs.declared.Reply.{Reply}
@@ -18,7 +18,7 @@ use Rattle.pretree.specs.declared.leg.Place.{Place}
 use Rattle.pretree.specs.Walk.{Walk, Stage, On, AtNone, AtRow, AtDamage, treeAt, below}
 use Rattle.pretree.specs.Leg.{Stands}
 use Rattle.pretree.specs.Reply.{wrong-header, too-wide, refused, answered}
-use Rattle.pretree.specs.Find.{saying}
+use Rattle.pretree.specs.Find.{saying, word}
 
 -- a call on the word k is refused for its header or for the word, and by the first of the two numbers that it is refused for
 abbrev pub refuses : Header → List ℕ → ℕ → Bool
@@ -43,7 +43,7 @@ wordBy h n Ends.the-variants.Damage = refused h Damage
 abbrev pub then-by : Header → ℕ → Way → Reply
 then-by h n w =
     if broken w then refused h Damage
-    else answered h (saying Word (keyAt (w .end))) (n + rows w)
+    else answered h (saying word (end-row w)) (n + rows w)
 
 -- the leg down to the greatest word may begin at the place p: a walk is there
 pub record GreatestFrom (h : Header) (p : Place) : Type 0 where

@@ -14,7 +14,7 @@ use Rattle.pretree.specs.declared.leg.End.{End}
 use Rattle.pretree.specs.declared.leg.End.the-variants.{None, Row, Damage}
 use Rattle.pretree.specs.declared.leg.Place.{Place}
 use Rattle.pretree.specs.declared.leg.Leg.{Leg}
-use Rattle.pretree.specs.Table.{link}
+use Rattle.pretree.specs.Table.{entryOf, link}
 use Rattle.pretree.specs.Walk.{Walk, Stage, On, AtNone, AtRow, AtDamage}
 use Rattle.pretree.specs.Resume.{Going}
 
@@ -42,7 +42,7 @@ linkEnd rows count p = if eqb (p .row) 0 then None else rowEnd rows count p
 -- how a walk ended, as the code has it
 abbrev pub EndsSo : (ℕ → Rows.Row) → Walk → End → Type 0
 EndsSo rows w None = w .stage ≡ AtNone
-EndsSo rows w (Row r) = (w .stage ≡ AtRow) × (r ≡ rows (w .row)) × (w .key ≡ r .entry .key)
+EndsSo rows w (Row r) = (w .stage ≡ AtRow) × (r ≡ rows (w .row)) × (w .entry ≡ entryOf r)
 EndsSo rows w Damage = w .stage ≡ AtDamage
 
 -- the place is where the walk is; its path is the least word with the bits of the walk's

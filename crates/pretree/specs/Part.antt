@@ -10,6 +10,7 @@ use Rattle.ordered.specs.Word.{left, right}
 use Rattle.ordered.specs.Tree.{Tree, none, row, intact, size}
 use Rattle.pretree.specs.declared.Row.{Row}
 use Rattle.pretree.specs.declared.leg.Place.{Place}
+use Rattle.pretree.specs.Table.{entryOf}
 use Rattle.pretree.specs.Unfold.{ends-there, linked, unfolded}
 use Rattle.pretree.specs.Walk.{Walk, below}
 use Rattle.pretree.specs.Leg.{Stands}
@@ -21,7 +22,7 @@ ofPlace r mask = record { row = 0; mask = mask; path = r .entry .key - bitAnd (r
 
 -- what row i shows, if it is no damage and m bits are left there
 abbrev pub rowTree : (ℕ → Row) → ℕ → ℕ → ℕ → Tree
-rowTree rows n m i = row i (record { key = rows i .entry .key }) (below rows n m i left) (below rows n m i right)
+rowTree rows n m i = row i (entryOf (rows i)) (below rows n m i left) (below rows n m i right)
 
 -- what a link shows that leads to such a row
 abbrev pub linkTree : (ℕ → Row) → ℕ → ℕ → ℕ → Tree

@@ -15,7 +15,7 @@ use Rattle.pretree.specs.declared.Answer.the-variants.{Done, Full}
 use Rattle.pretree.specs.declared.leg.End.the-variants.{Row}
 use Rattle.pretree.specs.declared.leg.Place.{Place}
 use Rattle.pretree.specs.declared.leg.Leg.{Leg}
-use Rattle.pretree.specs.Table.{capacity, rowAt, link, withRow, hooked}
+use Rattle.pretree.specs.Table.{capacity, rowAt, fromCode, link, withRow, hooked}
 use Rattle.pretree.specs.Unfold.{shown}
 use Rattle.pretree.specs.Reply.{refused, answered}
 use Rattle.pretree.specs.Walk.{Walk, seeking, Walked}
@@ -31,7 +31,7 @@ onward rows m i = link (rows i) (side m (rows i .entry .key))
 unfoldable pub takes-from : (ℕ → Rows.Row) → ℕ → ℕ → ℕ → Entry → List Take
 takes-from rows end zero i e = []
 takes-from rows end (suc n) i e =
-    record { at = i; entry = record { key = e .key } } ∷ takes-from rows end n (onward rows (end + n) i) (rows i .entry)
+    record { at = i; entry = fromCode e } ∷ takes-from rows end n (onward rows (end + n) i) (rows i .entry)
 
 -- and the entry that is left over
 unfoldable pub left-from : (ℕ → Rows.Row) → ℕ → ℕ → ℕ → Entry → Entry
@@ -51,13 +51,12 @@ endBits l = bitsLeft (l .at .mask)
 abbrev pub endSide : Leg → Side
 endSide l = sideOf (l .at .path / 2 ^ endBits l % 2)
 
--- the push of the word from a row with so many bits left, down to where `end` are left; and the new row, linked on a side of the row above
-unfoldable pub grownAt : Header → List ℕ → ℕ → ℕ → ℕ → ℕ → ℕ → Side → List ℕ
-grownAt h table k from bits end above s =
-    let word : Entry = record { key = k } in
+-- the push of the entry from a row with so many bits left, down to where `end` are left; and the new row, linked on a side of the row above
+unfoldable pub grownAt : Header → List ℕ → Entry → ℕ → ℕ → ℕ → ℕ → Side → List ℕ
+grownAt h table e from bits end above s =
     let n : ℕ = bits - end in
-    withRow (h .count) (record { entry = left-from (rowAt table) end n from word; left = 0; right = 0 })
-    (hooked (ltb end (h .width)) above s (h .count) (taking (takes-from (rowAt table) end n from word) table))
+    withRow (h .count) (record { entry = left-from (rowAt table) end n from e; left = 0; right = 0 })
+    (hooked (ltb end (h .width)) above s (h .count) (taking (takes-from (rowAt table) end n from e) table))
 
 -- what those writes ask
 pub record Growable (h : Header) (table : List ℕ) (from bits end above : ℕ) : Type 0 where
@@ -67,11 +66,11 @@ pub record Growable (h : Header) (table : List ℕ) (from bits end above : ℕ) 
   pub above-used : end < h .width → above < capacity table
 
 -- the outcome where the word is not there and nothing was damaged
-unfoldable pub grownOutcome : Header → List ℕ → ℕ → ℕ → ℕ → ℕ → ℕ → Side → Outcome
-grownOutcome h table k from bits end above s =
+unfoldable pub grownOutcome : Header → List ℕ → Entry → ℕ → ℕ → ℕ → ℕ → Side → Outcome
+grownOutcome h table e from bits end above s =
     let more : Header = record { width = h .width; count = suc (h .count) } in
     if eqb (h .count) (capacity table) then record { reply = refused h Full; table = table }
-    else record { reply = answered more Done (h .width - end); table = grownAt h table k from bits end above s }
+    else record { reply = answered more Done (h .width - end); table = grownAt h table e from bits end above s }
 
 -- the way of the word k ended at the row r, which stands at that place and has another key
 pub record Displaces (h : Header) (table : List ℕ) (k : ℕ) (at : Place) (r : Rows.Row) : Type 0 where

@@ -32,7 +32,7 @@ again AtDamage = AtDamage
 
 -- where it ended at a row, it wants that row again
 abbrev pub resumed : Walk → Walk
-resumed w = ended w (again (w .stage)) (w .key)
+resumed w = ended w (again (w .stage)) (w .entry)
 
 -- the walk w is on the whole way, by the rule f from here on, whatever its rule was before
 pub record Going (rows : ℕ → Row) (f : Rule) (width count : ℕ) (whole : Way) (w : Walk) : Type 0 where

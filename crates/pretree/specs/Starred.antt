@@ -5,6 +5,7 @@ use Prim.Native.Nat.{ℕ}
 use mathlib.Core.List.{List, [], _∷_}
 use Rattle.ordered.specs.Example.{Example, _is_}
 use Rattle.ordered.specs.Such.{Perhaps, no-such, such}
+use Rattle.ordered.specs.Dictionary.{Entry}
 use Rattle.ordered.specs.Tree.{Tree, none, row, unnumbered}
 use Rattle.pretree.specs.declared.Header.{Header}
 use Rattle.pretree.specs.declared.Reply.{Reply}
@@ -12,27 +13,29 @@ use Rattle.pretree.specs.Unfold.{shown}
 use Rattle.pretree.specs.Answer.{numberOf, keyOf}
 use Rattle.pretree.specs.Find.{hasReply, nextReply, prevReply, lastReply, gapReply}
 
+abbrev pub entry : ℕ → Entry
+entry k = record { key = k }
+
 -- a set in a table
 pub record Held : Type 0 where
   pub header : Header
   pub table : List ℕ
-  -- the words
-  pub words : List ℕ
+  pub set : List Entry
 
 -- "A = W 4, words 4, 8, 11, 15. B = W 3, words 0 to 4. C = W 1, words 0, 1."
 abbrev pub A : Held
-A = record { header = record { width = 4; count = 4 }; table = 4 ∷ 0 ∷ 1 ∷ 8 ∷ 2 ∷ 3 ∷ 11 ∷ 0 ∷ 0 ∷ 15 ∷ 0 ∷ 0 ∷ []; words = 4 ∷ 8 ∷ 11 ∷ 15 ∷ [] }
+A = record { header = record { width = 4; count = 4 }; table = 4 ∷ 0 ∷ 1 ∷ 8 ∷ 2 ∷ 3 ∷ 11 ∷ 0 ∷ 0 ∷ 15 ∷ 0 ∷ 0 ∷ []; set = entry 4 ∷ entry 8 ∷ entry 11 ∷ entry 15 ∷ [] }
 
 abbrev pub B : Held
 B =
     record {
       header = record { width = 3; count = 5 };
       table = 0 ∷ 1 ∷ 4 ∷ 1 ∷ 0 ∷ 2 ∷ 2 ∷ 0 ∷ 3 ∷ 3 ∷ 0 ∷ 0 ∷ 4 ∷ 0 ∷ 0 ∷ [];
-      words = 0 ∷ 1 ∷ 2 ∷ 3 ∷ 4 ∷ [];
+      set = entry 0 ∷ entry 1 ∷ entry 2 ∷ entry 3 ∷ entry 4 ∷ [];
     }
 
 abbrev pub C : Held
-C = record { header = record { width = 1; count = 2 }; table = 0 ∷ 0 ∷ 1 ∷ 1 ∷ 0 ∷ 0 ∷ []; words = 0 ∷ 1 ∷ [] }
+C = record { header = record { width = 1; count = 2 }; table = 0 ∷ 0 ∷ 1 ∷ 1 ∷ 0 ∷ 0 ∷ []; set = entry 0 ∷ entry 1 ∷ [] }
 
 -- a line of the examples: an answer number, its key, the rows read; or a tree
 pub data Line : Type 0 where
@@ -46,7 +49,7 @@ abbrev pub call : (Header → List ℕ → ℕ → Reply) → Held → ℕ → L
 call f s k = line (f (s .header) (s .table) k)
 
 abbrev pub word : ℕ → Tree → Tree → Tree
-word k l r = row 0 (record { key = k }) l r
+word k l r = row 0 (entry k) l r
 
 abbrev pub starred : List (Example Line)
 starred =

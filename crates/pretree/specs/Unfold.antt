@@ -8,7 +8,7 @@ use Rattle.ordered.specs.Word.{Side, left, right, bitOf}
 use Rattle.ordered.specs.Tree.{Tree, none, row, damaged}
 use Rattle.pretree.specs.declared.Header.{Header}
 use Rattle.pretree.specs.declared.Row.{Row}
-use Rattle.pretree.specs.Table.{rowAt, link}
+use Rattle.pretree.specs.Table.{rowAt, entryOf, link}
 
 -- at depth W both links are 0
 abbrev pub ends-there : ℕ → Row → Bool
@@ -30,11 +30,11 @@ linked part (suc i) = part (suc i)
 -- what the rows of a table with n rows in use show from row i down
 unfoldable pub unfolded : (ℕ → Row) → ℕ → ℕ → ℕ → ℕ → ℕ → Tree
 unfolded rows n zero path low i =
-    if judged n zero path low i (rows i) then row i (record { key = rows i .entry .key }) none none
+    if judged n zero path low i (rows i) then row i (entryOf (rows i)) none none
     else damaged
 unfolded rows n (suc m) path low i =
     let below : Side → Tree = λ s. linked (unfolded rows n m (path * 2 + bitOf s) (suc (rows i .entry .key))) (link (rows i) s) in
-    let t : Tree = row i (record { key = rows i .entry .key }) (below left) (below right) in
+    let t : Tree = row i (entryOf (rows i)) (below left) (below right) in
     if judged n (suc m) path low i (rows i) then t
     else damaged
 

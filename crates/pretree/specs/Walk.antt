@@ -7,12 +7,13 @@ use lib.Dec.{ltb, leb, eqb}
 use lib.ListN.{length}
 use Rattle.ordered.specs.Such.{if_then_else_, Perhaps, no-such, such, first-of, last-such, anything}
 use Rattle.ordered.specs.Word.{Side, left, right, other, sideOf, bitOf, side}
+use Rattle.ordered.specs.Dictionary.{Entry, no-entry}
 use Rattle.ordered.specs.Tree.{Tree, none, row, damaged}
 use Rattle.ordered.specs.Way.{Way, Step, Rule, Turn, way, ending, stop, to}
 use Rattle.ordered.specs.Reading.{right-left-aside}
 use Rattle.pretree.specs.declared.Header.{Header}
 use Rattle.pretree.specs.declared.Row.{Row}
-use Rattle.pretree.specs.Table.{link}
+use Rattle.pretree.specs.Table.{entryOf, link}
 use Rattle.pretree.specs.Unfold.{ends-there, linked, unfolded}
 
 -- where a walk is: at a row that it wants to read, or at its end, which is an empty link, a row or damage
@@ -26,8 +27,8 @@ pub record Walk : Type 0 where
   pub bits : ℕ
   pub path : ℕ
   pub low : ℕ
-  -- the key of the row that it read last
-  pub key : ℕ
+  -- the entry of the row that it read last
+  pub entry : Entry
   -- the last row that it passed
   pub above : ℕ
   -- the deepest row that it passed where it went left and a right link exists, if there is any, with the bits left below it
@@ -44,7 +45,7 @@ started h =
       bits = h .width;
       path = 0;
       low = 0;
-      key = 0;
+      entry = no-entry;
       above = 0;
       aside = 0;
       beneath = 0;
@@ -72,15 +73,15 @@ rowsRead w width = width - w .bits + endRead (w .stage)
 abbrev pub holds : Walk → Row → Bool
 holds w r = leb (w .low) (r .entry .key) && (eqb (r .entry .key / 2 ^ w .bits) (w .path) && ends-there (w .bits) r)
 
-abbrev pub ended : Walk → Stage → ℕ → Walk
-ended w stage key =
+abbrev pub ended : Walk → Stage → Entry → Walk
+ended w stage entry =
     record {
       count = w .count;
       row = w .row;
       bits = w .bits;
       path = w .path;
       low = w .low;
-      key = key;
+      entry = entry;
       above = w .above;
       aside = w .aside;
       beneath = w .beneath;
@@ -100,7 +101,7 @@ startedAt count i bits path low =
       bits = bits;
       path = path;
       low = low;
-      key = 0;
+      entry = no-entry;
       above = 0;
       aside = 0;
       beneath = 0;
@@ -117,7 +118,7 @@ remembering w =
       bits = w .bits;
       path = w .path;
       low = w .low;
-      key = w .key;
+      entry = w .entry;
       above = w .above;
       aside = w .row;
       beneath = pred (w .bits);
@@ -125,16 +126,16 @@ remembering w =
       stage = w .stage;
     }
 
--- the walk that passed a row with key k, by the link l on the side of that bit
-abbrev pub passed : Walk → ℕ → ℕ → ℕ → Walk
-passed w k bit l =
+-- the walk that passed a row with the entry e, by the link l on the side of that bit
+abbrev pub passed : Walk → Entry → ℕ → ℕ → Walk
+passed w e bit l =
     record {
       count = w .count;
       row = l;
       bits = pred (w .bits);
       path = w .path * 2 + bit;
-      low = suc k;
-      key = k;
+      low = suc (e .key);
+      entry = e;
       above = w .row;
       aside = w .aside;
       beneath = w .beneath;
@@ -144,14 +145,14 @@ passed w k bit l =
 
 -- a left turn is remembered where there is a right link
 unfoldable pub turned : Walk → Row → Turn → Walk
-turned w r stop = ended w AtRow (r .entry .key)
-turned w r (to left) = passed (if eqb (r .right) 0 then w else remembering w) (r .entry .key) 0 (r .left)
-turned w r (to right) = passed w (r .entry .key) 1 (r .right)
+turned w r stop = ended w AtRow (entryOf r)
+turned w r (to left) = passed (if eqb (r .right) 0 then w else remembering w) (entryOf r) 0 (r .left)
+turned w r (to right) = passed w (entryOf r) 1 (r .right)
 
 unfoldable pub met : Walk → Row → Turn → Walk
 met w r turn =
-    if not (holds w r) then ended w AtDamage (r .entry .key)
-    else if eqb (w .bits) 0 then ended w AtRow (r .entry .key)
+    if not (holds w r) then ended w AtDamage (entryOf r)
+    else if eqb (w .bits) 0 then ended w AtRow (entryOf r)
     else turned w r turn
 
 -- the tree at the row that the walk wants, or at which it ended
@@ -179,7 +180,7 @@ unfoldable pub stepAt : (ℕ → Row) → ℕ → ℕ → ℕ → Side → Step
 stepAt rows n m i s =
     record {
       at = i;
-      entry = record { key = rows i .entry .key };
+      entry = entryOf (rows i);
       turn = s;
       left-part = below rows n (suc m) i left;
       right-part = below rows n (suc m) i right;
@@ -205,7 +206,7 @@ pub record Goes (rows : ℕ → Row) (width : ℕ) (whole : Way) (w : Walk) (com
 abbrev pub Placed : (ℕ → Row) → Walk → Stage → Type 0
 Placed rows w On = w .row < w .count
 Placed rows w AtNone = Unit {0}
-Placed rows w AtRow = (w .row < w .count) × (holds w (rows (w .row)) ≡ true) × (w .key ≡ rows (w .row) .entry .key)
+Placed rows w AtRow = (w .row < w .count) × (holds w (rows (w .row)) ≡ true) × (w .entry ≡ entryOf (rows (w .row)))
 Placed rows w AtDamage = Unit {0}
 
 -- the rows that it remembers are in use

@@ -25,7 +25,7 @@ use crate::write::side_of;
 ghost use mathlib.Core.Path.{_≡_};
 ghost use mathlib.Core.Bool.{false};
 ghost use Prim.Native.Nat.{_-_, _≤_, _<_};
-ghost use Rattle.pretree.specs.Table.{capacity, rowAt};
+ghost use Rattle.pretree.specs.Table.{capacity, rowAt, fromCode};
 ghost use Rattle.pretree.specs.Reply.{wrong-header, too-wide};
 ghost use Rattle.pretree.specs.Add.{addOutcome, taking};
 ghost use Rattle.pretree.specs.Push.{takes-from, left-from, Rising, endBits, endSide, Growable, grownOutcome, Displaces};
@@ -33,18 +33,19 @@ ghost use Rattle.pretree.specs.Push.{takes-from, left-from, Rising, endB
 impl Header {
     // "`add` k: the way of k. If it ends at a key greater than k, that row takes k and its old key is pushed down".
     pub fn add(self, table: &mut [u32], word: u32) -> Reply
-        ensures { λ r. ⌜ r ≡ addOutcome self (now (table .entry)) word .reply ⌝ }
-        ensures { λ _. ⌜ now (table .exit) ≡ addOutcome self (now (table .entry)) word .table ⌝ }
+        ensures { λ r. ⌜ r ≡ addOutcome self (now (table .entry)) (record { key = word }) .reply ⌝ }
+        ensures { λ _. ⌜ now (table .exit) ≡ addOutcome self (now (table .entry)) (record { key = word }) .table ⌝ }
     {
         if self.refuses(table, word) {
             return self.refusal(table);
         }
+        let entry = Entry { key: word };
         if self.count == 0 {
             let start = Leg {
                 at: Place::root(self.width),
                 above: 0,
             };
-            return self.grown(table, word, 0, self.width, start);
+            return self.grown(table, entry, 0, self.width, start);
         }
         let s = sought(table, self, word);
         let end = seek_end(table, self.count as usize, word, s);
@@ -52,7 +53,7 @@ impl Header {
             End::Damage => self.refused(Answer::Damage),
             End::None => self.grown(
                 table,
-                word,
+                entry,
                 s.row,
                 bits_of(s.mask),
                 Leg {
@@ -64,18 +65,18 @@ impl Header {
                 if row.entry.key == word {
                     return self.answered(Answer::AlreadyThere, self.width - bits_of(s.mask) + 1);
                 }
-                self.displaced(table, word, s.place(word), row)
+                self.displaced(table, entry, s.place(word), row)
             }
         }
     }
 
     // The way of the word ended at that row, whose key is greater: "its old key is pushed down by its own bits".
-    fn displaced(self, table: &mut [u32], word: u32, at: Place, row: Row) -> Reply
+    fn displaced(self, table: &mut [u32], entry: Entry, at: Place, row: Row) -> Reply
         requires header { ⌜ wrong-header self (now table) ≡ false ⌝ }
-        requires width { ⌜ too-wide self word ≡ false ⌝ }
-        requires ends { ⌜ Displaces self (now table) word at row ⌝ }
-        ensures { λ r. ⌜ r ≡ addOutcome self (now (table .entry)) word .reply ⌝ }
-        ensures { λ _. ⌜ now (table .exit) ≡ addOutcome self (now (table .entry)) word .table ⌝ }
+        requires width { ⌜ too-wide self (entry .key) ≡ false ⌝ }
+        requires ends { ⌜ Displaces self (now table) (entry .key) at row ⌝ }
+        ensures { λ r. ⌜ r ≡ addOutcome self (now (table .entry)) (fromCode entry) .reply ⌝ }
+        ensures { λ _. ⌜ now (table .exit) ≡ addOutcome self (now (table .entry)) (fromCode entry) .table ⌝ }
     {
         let start = Leg {
             at: at.below(row, own_side(at.mask, row.entry.key)),
@@ -86,21 +87,21 @@ impl Header {
         if let End::Damage = end {
             return self.refused(Answer::Damage);
         }
-        self.grown(table, word, at.row, bits_of(at.mask), leg)
+        self.grown(table, entry, at.row, bits_of(at.mask), leg)
     }
 
     // "The new row is row `count`, with both links 0, linked where the way or the push ended": the leg is there. The push began at row `from`.
-    fn grown(self, table: &mut [u32], word: u32, from: usize, bits: u32, leg: Leg) -> Reply
+    fn grown(self, table: &mut [u32], entry: Entry, from: usize, bits: u32, leg: Leg) -> Reply
         requires header { ⌜ wrong-header self (now table) ≡ false ⌝ }
         requires growable { ⌜ Growable self (now table) from bits (endBits leg) (leg .above) ⌝ }
-        ensures { λ r. ⌜ r ≡ grownOutcome self (now (table .entry)) word from bits (endBits leg) (leg .above) (endSide leg) .reply ⌝ }
-        ensures { λ _. ⌜ now (table .exit) ≡ grownOutcome self (now (table .entry)) word from bits (endBits leg) (leg .above) (endSide leg) .table ⌝ }
+        ensures { λ r. ⌜ r ≡ grownOutcome self (now (table .entry)) entry from bits (endBits leg) (leg .above) (endSide leg) .reply ⌝ }
+        ensures { λ _. ⌜ now (table .exit) ≡ grownOutcome self (now (table .entry)) entry from bits (endBits leg) (leg .above) (endSide leg) .table ⌝ }
     {
         if self.count == capacity(table) {
             return self.refused(Answer::Full);
         }
         let end = bits_of(leg.at.mask);
-        let entry = push(table, from, bits, end, Entry { key: word });
+        let left = push(table, from, bits, end, entry);
         hook(
             table,
             end < self.width,
@@ -112,7 +113,7 @@ impl Header {
             table,
             self.count as usize,
             Row {
-                entry,
+                entry: left,
                 left: Header::NONE,
                 right: Header::NONE,
             },

@@ -8,7 +8,7 @@ ghost use mathlib.Core.Path.{_≡_};
 ghost use mathlib.Core.Bool.{true};
 ghost use Prim.Native.Nat.{_/_, _%_, _^_, _<_, _≤_};
 ghost use Rattle.ordered.specs.Word.{sideOf};
-ghost use Rattle.pretree.specs.Table.{capacity, withKey, withLink, withRow, hooked};
+ghost use Rattle.pretree.specs.Table.{capacity, fromCode, withEntry, withLink, withRow, hooked};
 
 // The side of the row above to which a place is linked, with so many bits left: 0 is left, 1 is right.
 pub(crate) fn side_of(at: Place, bits: u32) -> u32
@@ -21,7 +21,7 @@ pub(crate) fn side_of(at: Place, bits: u32) -> u32
 // Row i takes an entry, all of it at once.
 pub(crate) fn put_entry(table: &mut [u32], i: usize, entry: Entry)
     requires { ⌜ i < capacity (now table) ⌝ }
-    ensures { λ _. ⌜ now (table .exit) ≡ withKey i (entry .key) (now (table .entry)) ⌝ }
+    ensures { λ _. ⌜ now (table .exit) ≡ withEntry i (fromCode entry) (now (table .entry)) ⌝ }
 {
     let at = Header::ROW * i;
     table[at] = entry.key;

@@ -33,7 +33,7 @@ returns : tie.Need-returns
 unfolding addOutcome
 returns c =
     let a = c .before .before .before .before .before .before .args in
-    let out : record { reply = refusal (a .self) (a .table .now); table = a .table .now } ≡ addOutcome (a .self) (a .table .now) (a .word)
+    let out : record { reply = refusal (a .self) (a .table .now); table = a .table .now } ≡ addOutcome (a .self) (a .table .now) (record { key = a .word })
     = chosen {A = Outcome} (a .self) (a .table .now) (a .word) (λ r. record { reply = r; table = a .table .now }) _
     (sym (c .before .before .before .refuses .ensures) ∙ c .before .before .if1 .taken) in
     (c .refusal .ensures ∙ ap (λ (o : Outcome). o .reply) out, ap (λ (o : Outcome). o .table) out)
@@ -58,7 +58,7 @@ grown-requires c κs =
     let a = e .before .before .before .before .args in
     let leg : Leg = record { at = c .before .root .result; above = 0 } in
     let g : Growable (a .self) (a .table .now) 0 (a .self .width) (endBits leg) 0
-    = rw (c .before .root .ensures) (root-growable (a .self) (a .table .now) (a .word) (right e .0) (t .if2 .taken)) in
+    = rw (c .before .root .ensures) (root-growable (a .self) (a .table .now) (record { key = a .word }) (right e .0) (t .if2 .taken)) in
     (right e .0, g)
 
 same-length-2 : tie.Need-same-length-2
@@ -71,8 +71,8 @@ returns-2 c =
     let e = r .before .before .before in
     let a = e .before .before .before .before .args in
     let leg : Leg = record { at = r .root .result; above = 0 } in
-    let is : addOutcome (a .self) (a .table .now) (a .word) ≡ grownOutcome (a .self) (a .table .now) (a .word) 0 (a .self .width) (endBits leg) 0 (endSide leg)
-    = rw (r .root .ensures) (root-outcome (a .self) (a .table .now) (a .word) (right e .0) (r .before .if2 .taken) (right e .1)) in
+    let is : addOutcome (a .self) (a .table .now) (record { key = a .word }) ≡ grownOutcome (a .self) (a .table .now) (record { key = a .word }) 0 (a .self .width) (endBits leg) 0 (endSide leg)
+    = rw (r .root .ensures) (root-outcome (a .self) (a .table .now) (record { key = a .word }) (right e .0) (r .before .if2 .taken) (right e .1)) in
     (rw is (g .grown .ensures .0), rw is (g .grown .ensures .1))
 
 sought-requires : tie.Need-sought-requires
@@ -127,7 +127,7 @@ returns-4 c =
     let q = d .before .before .before in
     let e = q .before .before .before .before in
     let a = e .before .before .before .before .args in
-    rw (broken-outcome (a .self) (a .table .now) (a .word) (right e .0) (right e .1) (q .sought .result) (ends-as d _ (c .before .enum-told .given .1)))
+    rw (broken-outcome (a .self) (a .table .now) (record { key = a .word }) (right e .0) (right e .1) (q .sought .result) (ends-as d _ (c .before .enum-told .given .1)))
     (c .refused .ensures, refl)
 
 -- at an empty link
@@ -156,7 +156,7 @@ grown-requires-2 c κs =
     let leg : Leg = record { at = c .place .result; above = s .above } in
     let g : Growable (a .self) (a .table .now) (s .row) (c .before .bits-of .result) (endBits leg) (s .above)
     = rw (c .before .bits-of .ensures, c .place .ensures)
-    (link-growable (a .self) (a .table .now) (a .word) (right e .0) (right e .1) s (ends-as d _ (c .before .before .before .enum-told2 .given .1))) in
+    (link-growable (a .self) (a .table .now) (record { key = a .word }) (right e .0) (right e .1) s (ends-as d _ (c .before .before .before .enum-told2 .given .1))) in
     (right e .0, g)
 
 same-length-5 : tie.Need-same-length-5
@@ -172,10 +172,10 @@ returns-5 c =
     let a = e .before .before .before .before .args in
     let s = q .sought .result in
     let leg : Leg = record { at = p .place .result; above = s .above } in
-    let is : addOutcome (a .self) (a .table .now) (a .word)
-    ≡ grownOutcome (a .self) (a .table .now) (a .word) (s .row) (p .before .bits-of .result) (endBits leg) (s .above) (endSide leg)
+    let is : addOutcome (a .self) (a .table .now) (record { key = a .word })
+    ≡ grownOutcome (a .self) (a .table .now) (record { key = a .word }) (s .row) (p .before .bits-of .result) (endBits leg) (s .above) (endSide leg)
     = rw (p .before .bits-of .ensures, p .place .ensures)
-    (link-outcome (a .self) (a .table .now) (a .word) (right e .0) (right e .1) s (ends-as d _ (p .before .before .before .enum-told2 .given .1))) in
+    (link-outcome (a .self) (a .table .now) (record { key = a .word }) (right e .0) (right e .1) s (ends-as d _ (p .before .before .before .enum-told2 .given .1))) in
     (rw is (g .grown2 .ensures .0), rw is (g .grown2 .ensures .1))
 
 -- at a row: the word is there, or that row's key is displaced
@@ -218,7 +218,7 @@ returns-3 c =
     let q = d .before .before .before in
     let e = q .before .before .before .before in
     let a = e .before .before .before .before .args in
-    let is = there-outcome (a .self) (a .table .now) (a .word) (right e .0) (right e .1) (q .sought .result) _ (ends-as d _ (r .end .given .1)) (t .if3 .taken) in
+    let is = there-outcome (a .self) (a .table .now) (record { key = a .word }) (right e .0) (right e .1) (q .sought .result) _ (ends-as d _ (r .end .given .1)) (t .if3 .taken) in
     (rw (is, c .answered .ensures, b .bits-of2 .ensures), rw is)
 
 place-requires-2 : tie.Need-place-requires-2
@@ -240,7 +240,7 @@ displaced-requires c κs =
     let a = e .before .before .before .before .args in
     let at-row : Displaces (a .self) (a .table .now) (a .word) (c .place2 .result) (r .end .given .0 .0)
     = rw (c .place2 .ensures)
-    (displaces (a .self) (a .table .now) (a .word) (right e .0) (right e .1) (q .sought .result) _ (ends-as d _ (r .end .given .1)) (t .if3 .left)) in
+    (displaces (a .self) (a .table .now) (record { key = a .word }) (right e .0) (right e .1) (q .sought .result) _ (ends-as d _ (r .end .given .1)) (t .if3 .left)) in
     (right e .0, (right e .1, at-row))
 
 same-length-6 : tie.Need-same-length-6

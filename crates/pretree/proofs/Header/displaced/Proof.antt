@@ -3,7 +3,7 @@ use mathlib.Core.Path.{_≡_, refl, sym, _∙_}
 use Rattle.ordered.specs.Word.{sideOf}
 use Rattle.ordered.specs.Way.{pushing}
 use Rattle.pretree.specs.declared.leg.End.the-variants.{Damage}
-use Rattle.pretree.specs.Table.{rowAt}
+use Rattle.pretree.specs.Table.{fromCode, rowAt}
 use Rattle.pretree.specs.Walk.{stageAt}
 use Rattle.pretree.specs.Leg.{belowPlace, linkEnd, passesPush, ownSide, BegunLeg, LegGone}
 use Rattle.pretree.specs.Add.{addOutcome}
@@ -23,7 +23,7 @@ below-requires : tie.Need-below-requires
 below-requires c κs =
     let s = c .before .before in
     let a = s .args in (
-      inner-place (a .self) (a .table .now) (a .word) (a .at) (a .row) (s .pre .0) (s .pre .1 .0) (s .pre .1 .1),
+      inner-place (a .self) (a .table .now) (a .entry) (a .at) (a .row) (s .pre .0) (s .pre .1 .0) (s .pre .1 .1),
       (s .pre .1 .1 .stands .room, rw (c .own-side .ensures) (own-small (a .at .mask) (a .row .entry .key))),
     )
 
@@ -37,7 +37,7 @@ pushed-requires c κs =
     let a = s .args in
     let begun : BegunLeg (a .self .count) stageAt (record { at = b .below .result; above = a .at .row })
     = rw (b .below .ensures, b .before .own-side .ensures)
-    (begun-push (a .self) (a .table .now) (a .word) (a .at) (a .row) (s .pre .0) (s .pre .1 .0) (s .pre .1 .1)) in
+    (begun-push (a .self) (a .table .now) (a .entry) (a .at) (a .row) (s .pre .0) (s .pre .1 .0) (s .pre .1 .1)) in
     (right-header (a .self) (a .table .now) (s .pre .0) .has-room, begun)
 
 cast-link-end : tie.Need-cast-link-end
@@ -70,7 +70,7 @@ returns c =
     let p = l .before .before .before in
     let s = p .before .before .before .before .before .before in
     let a = s .args in
-    rw (push-damaged (a .self) (a .table .now) (a .word) (a .at) (a .row) (s .pre .0) (s .pre .1 .0) (s .pre .1 .1) (p .pushed .result) (went p)
+    rw (push-damaged (a .self) (a .table .now) (a .entry) (a .at) (a .row) (s .pre .0) (s .pre .1 .0) (s .pre .1 .1) (p .pushed .result) (went p)
     (sym (l .link-end .ensures) ∙ c .before .enum-told .given .1))
     (c .refused .ensures, refl)
 
@@ -90,7 +90,7 @@ grown-requires c κs =
     let a = s .args in
     let g : Growable (a .self) (a .table .now) (a .at .row) (c .bits-of .result) (endBits (p .pushed .result)) (p .pushed .result .above)
     = rw (c .bits-of .ensures)
-    (push-growable (a .self) (a .table .now) (a .word) (a .at) (a .row) (s .pre .0) (s .pre .1 .0) (s .pre .1 .1) (p .pushed .result) (went p) (whole (c .before .before))) in
+    (push-growable (a .self) (a .table .now) (a .entry) (a .at) (a .row) (s .pre .0) (s .pre .1 .0) (s .pre .1 .1) (p .pushed .result) (went p) (whole (c .before .before))) in
     (s .pre .0, g)
 
 same-length-2 : tie.Need-same-length-2
@@ -104,10 +104,10 @@ returns-2 c =
     let s = p .before .before .before .before .before .before in
     let a = s .args in
     let leg = p .pushed .result in
-    let is : addOutcome (a .self) (a .table .now) (a .word)
-    ≡ grownOutcome (a .self) (a .table .now) (a .word) (a .at .row) (b .bits-of .result) (endBits leg) (leg .above) (endSide leg)
+    let is : addOutcome (a .self) (a .table .now) (fromCode (a .entry))
+    ≡ grownOutcome (a .self) (a .table .now) (a .entry) (a .at .row) (b .bits-of .result) (endBits leg) (leg .above) (endSide leg)
     = rw (b .bits-of .ensures)
-    (push-outcome (a .self) (a .table .now) (a .word) (a .at) (a .row) (s .pre .0) (s .pre .1 .0) (s .pre .1 .1) leg (went p) (whole (b .before .before))) in
+    (push-outcome (a .self) (a .table .now) (a .entry) (a .at) (a .row) (s .pre .0) (s .pre .1 .0) (s .pre .1 .1) leg (went p) (whole (b .before .before))) in
     (rw is (g .grown .ensures .0), rw is (g .grown .ensures .1))
 
 pub displaced-spec : {M : Type 1} → statement M

@@ -28,7 +28,7 @@ returns : tie.Need-returns
 returns c =
     let q = c .before .before .before in
     let a = q .before .before .before .args in
-    rw (on-full (a .self) (a .table .now) (a .word) (a .from) (a .bits) (endBits (a .leg)) (a .leg .above) (endSide (a .leg)) (c .before .if1 .taken ∙ q .capacity .ensures))
+    rw (on-full (a .self) (a .table .now) (a .entry) (a .from) (a .bits) (endBits (a .leg)) (a .leg .above) (endSide (a .leg)) (c .before .if1 .taken ∙ q .capacity .ensures))
     (c .refused .ensures, refl)
 
 -- there is room
@@ -104,10 +104,10 @@ returns-2 c =
     let b = pushed .before .before in
     let a = b .before .before .before .before .before .before .args in
     let end = b .bits-of .result in
-    let written : put .put-row .last .0 ≡ grownAt (a .self) (a .table .now) (a .word) (a .from) (a .bits) end (a .leg .above) (sideOf (hooked .before .side-of .result))
-    = writes-grow (a .self) (a .table .now) (a .word) (a .from) (a .bits) end (a .leg .above) (sideOf (hooked .before .side-of .result))
+    let written : put .put-row .last .0 ≡ grownAt (a .self) (a .table .now) (a .entry) (a .from) (a .bits) end (a .leg .above) (sideOf (hooked .before .side-of .result))
+    = writes-grow (a .self) (a .table .now) (a .entry) (a .from) (a .bits) end (a .leg .above) (sideOf (hooked .before .side-of .result))
     (pushed .push .ensures .0) (pushed .push .ensures .1) (hooked .hook .ensures) (put .put-row .ensures) in
-    rw (on-done (a .self) (a .table .now) (a .word) (a .from) (a .bits) (endBits (a .leg)) (a .leg .above) (endSide (a .leg)) (room (b .before)))
+    rw (on-done (a .self) (a .table .now) (a .entry) (a .from) (a .bits) (endBits (a .leg)) (a .leg .above) (endSide (a .leg)) (room (b .before)))
     (rw (c .answered .ensures, b .bits-of .ensures, add-one), rw (hooked .before .side-of .ensures, b .bits-of .ensures) at written)
 
 pub grown-spec : {M : Type 1} → statement M

@@ -12,7 +12,7 @@ use mir.Facts.{fits-bits}
 use borrow.Author.Needs.{needs}
 use borrow.Fn.Kinds.{In}
 use borrow.Fn.PlainCycle.{Measures, is, falls, and}
-use Rattle.ordered.specs.Tree.{Tree, size, listing}
+use Rattle.ordered.specs.Tree.{Tree, size, entries, listing}
 use Rattle.pretree.specs.declared.Row as Rows
 use Rattle.pretree.specs.Table.{capacity, rowAt}
 use Rattle.pretree.specs.Seek.{bitsLeft}
@@ -69,7 +69,7 @@ module _ (t : ℕ) where
   -- ---- at a link
 
   link-returns : link-listed-lts.Need-returns (by-link t) (link-listed-at t) link-listed.Post
-  unfolding size listing
+  unfolding size entries
   link-returns c = rw (c .if1 .taken) (sym (add-zero _), refl)
 
   -- the link leads to a row

@@ -3,7 +3,7 @@ use mathlib.Core.Path.{refl}
 use native.Mathlib.Omega.{arith}
 use mir.Facts.{fits-bits}
 use borrow.Author.Needs.{needs}
-use Rattle.pretree.specs.Table.{withKey}
+use Rattle.pretree.specs.Table.{withEntry}
 use Rattle.pretree.proofs.Writing.{RowWords, row-words}
 use Rattle.pretree.proofs.write.put_entry.Statement.{statement}
 use Rattle.pretree.proofs.write.put_entry.Tie as tie
@@ -24,7 +24,7 @@ same-length : tie.Need-same-length
 same-length c = search needs
 
 returns : tie.Need-returns
-unfolding withKey
+unfolding withEntry
 returns c = refl
 
 pub put-entry-spec : {M : Type 1} → statement M
