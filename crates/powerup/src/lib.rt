@@ -78,10 +78,10 @@ pub fn power_up(bytes: &[u8], edition: u32) -> Reply
         return refuse(Answer::WrongLength);
     }
     if edition == 1 {
-        return judge::judge(editions::first(), count::count(bytes));
+        return judge::judge(editions::FIRST, count::count(bytes));
     }
     if edition == 2 {
-        return judge::judge(editions::second(), count::count(bytes));
+        return judge::judge(editions::SECOND, count::count(bytes));
     }
     refuse(Answer::WrongEdition)
 }
