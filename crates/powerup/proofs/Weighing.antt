@@ -7,11 +7,11 @@ use Prim.Native.Nat.{ℕ, zero, suc, _+_, _*_, _/_, _%_, _≤_, _<_}
 use native.Mathlib.Omega.{arith}
 use borrow.Author.Tests.{leb-true, eqb-true, eqb-false, eq-eqb, ne-eqb}
 use lib.Dec.{eqb, leb}
-use lib.ListN.{length, getD}
+use lib.ListN.{length, getD, drop, length-drop}
 use Rattle.powerup.specs.declared.count.Tally.{Tally}
 use Rattle.powerup.specs.Bits.{bits}
-use Rattle.powerup.specs.Counts.{sixteen, sizes, occurrences, halfBytes, pokerCounts, sumOfSquares, runsFrom, runs, isOf, howMany, runCounts, countsOf}
-use Rattle.powerup.specs.Steps.{Few, Light, Small, Tallied, pair, place, halfBits, pairsFrom, pairsOf, innerRuns, butLast, total, thirtyTwo, dot, pokerOf, onesAt, insideAt, runsIn, countsIn}
+use Rattle.powerup.specs.Counts.{Run, sixteen, sizes, occurrences, halfBytes, pokerCounts, sumOfSquares, runsFrom, runs, isOf, howMany, runCounts, countsOf}
+use Rattle.powerup.specs.Steps.{Few, Light, Small, Room, Tallied, pair, place, halfBits, pairsFrom, pairsOf, innerRuns, butLast, total, thirtyTwo, dot, pokerOf, onesAt, insideAt, runsIn, countsIn}
 use Rattle.powerup.proofs.Lists.{either, both, Each, each, at-16, written-16, at-32}
 use Rattle.powerup.proofs.Counting.{inner, half-of, byte-halves}
 
@@ -36,6 +36,53 @@ light-of s ws size h = record {
   most = omega (arith, s .size);
   few = λ i. omega (arith, s .pairs i);
   light = few-of 10000 ws h;
+}
+
+-- There are at most as many runs as bits, beside the run before them.
+runs-most : (b n : ℕ) (bs : List ℕ) → length (runsFrom b n bs) ≤ suc (length bs)
+unfolding runsFrom
+runs-most b n [] = omega arith
+runs-most b n (c ∷ cs) =
+    ⊎-elim (λ t. rw t (omega (arith, runs-most b (suc n) cs))) (λ f. rw f (omega (arith, runs-most c 1 cs))) (either (eqb c b))
+
+but-last-most : (rs : List Run) → length (butLast rs) ≤ length rs
+unfolding butLast
+but-last-most [] = omega arith
+but-last-most (r ∷ []) = omega arith
+but-last-most (r ∷ q ∷ rs) = omega (arith, but-last-most (q ∷ rs))
+
+many-most : (b k : ℕ) (rs : List Run) → howMany b k rs ≤ length rs
+unfolding howMany
+many-most b k [] = omega arith
+many-most b k (r ∷ rs) =
+    ⊎-elim (λ t. rw t (omega (arith, many-most b k rs))) (λ f. rw f (omega (arith, many-most b k rs))) (either (isOf b k r))
+
+inner-most : (b k p : ℕ) → inner b k p ≤ 5
+unfolding innerRuns
+inner-most b k p =
+    let rs = runsFrom (p / 16) 0 (halfBits (p % 16)) in
+    omega (arith, many-most b k (innerRuns p), but-last-most (drop 1 rs), length-drop 1 rs, runs-most (p / 16) 0 (halfBits (p % 16)))
+
+-- The weights of the runs inside a half-byte are small, so that their sum fits.
+pub light-inside : {t : Tally} {ws : List ℕ} (b k : ℕ) → Small t → ws ≡ insideAt b k → Light (t .pairs) ws
+unfolding insideAt
+light-inside b k s e =
+    rw e
+    (record {
+      same = s .size;
+      most = omega (arith, s .size);
+      few = λ i. omega (arith, s .pairs i);
+      light = few-map (inner b k) 10000 (λ p. omega (arith, inner-most b k p)) thirtyTwo;
+    })
+
+-- So do the sums with the runs that ended.
+pub room :
+    {t : Tally} (b x y z : ℕ) → Small t → b < 2 → x ≤ 3200000000 → y ≤ 3200000000 → z ≤ 3200000000 → Room (t .ended) (7 * b) x y z
+room b x y z s hb hx hy hz = record {
+  places = omega arith;
+  one = omega (arith, s .ended (7 * b + 1));
+  two = omega (arith, s .ended (7 * b + 2));
+  three = omega (arith, s .ended (7 * b + 3));
 }
 
 pub poker-few : (pairs : List ℕ) → Few pairs 5000 → Few (pokerOf pairs) 10000

@@ -1,5 +1,5 @@
 -- How the code counts: a half-byte at a time. These definitions are for the code's own functions; the reply says nothing of them.
-use Prim.Native.Nat.{ℕ, _+_, _*_, _/_, _%_, _≤_, _<_, min, max}
+use Prim.Native.Nat.{ℕ, _+_, _*_, _/_, _%_, _^_, _≤_, _<_, min, max}
 use mathlib.Core.Path.{_≡_}
 use mathlib.Core.Bool.{cond}
 use mathlib.Core.List.{List, [], _∷_, map}
@@ -124,8 +124,8 @@ unfoldable pub pokerOf : List ℕ → List ℕ
 pokerOf pairs = map (λ v. getD pairs v 0 + getD pairs (16 + v) 0) sixteen
 
 -- the runs of one bit: those that ended at the places after `first`, and those of length 1, 2 and 3 inside a half-byte
-abbrev pub runsOf : List ℕ → ℕ → ℕ → ℕ → ℕ → List ℕ
-runsOf ended first x y z =
+abbrev pub byLength : List ℕ → ℕ → ℕ → ℕ → ℕ → List ℕ
+byLength ended first x y z =
     (getD ended (first + 1) 0 + x)
     ∷ (getD ended (first + 2) 0 + y)
     ∷ (getD ended (first + 3) 0 + z)
@@ -134,6 +134,13 @@ runsOf ended first x y z =
     ∷ getD ended (first + 6) 0
     ∷ []
 
+-- the places are in the table, and the sums fit
+pub record Room (ended : List ℕ) (first x y z : ℕ) : Type 0 where
+  pub places : first ≤ 7
+  pub one : getD ended (first + 1) 0 + x < 2 ^ 32
+  pub two : getD ended (first + 2) 0 + y < 2 ^ 32
+  pub three : getD ended (first + 3) 0 + z < 2 ^ 32
+
 -- At each pair: the ones of the half-byte; the runs of one kind inside it.
 unfoldable pub onesAt : List ℕ
 onesAt = map (λ p. occurrences 1 (halfBits (p % 16))) thirtyTwo
@@ -141,9 +148,15 @@ onesAt = map (λ p. occurrences 1 (halfBits (p % 16))) thirtyTwo
 unfoldable pub insideAt : ℕ → ℕ → List ℕ
 insideAt b k = map (λ p. howMany b k (innerRuns p)) thirtyTwo
 
+-- weights that count the runs of the bit b inside a half-byte: those of length 1, of 2 and of 3
+pub record Insides (b : ℕ) (singles doubles triples : List ℕ) : Type 0 where
+  pub one : singles ≡ insideAt b 1
+  pub two : doubles ≡ insideAt b 2
+  pub three : triples ≡ insideAt b 3
+
 -- the runs of one bit in a tally
 unfoldable pub runsIn : ℕ → Tally → List ℕ
-runsIn b t = runsOf (t .ended) (7 * b) (dot (t .pairs) (insideAt b 1)) (dot (t .pairs) (insideAt b 2)) (dot (t .pairs) (insideAt b 3))
+runsIn b t = byLength (t .ended) (7 * b) (dot (t .pairs) (insideAt b 1)) (dot (t .pairs) (insideAt b 2)) (dot (t .pairs) (insideAt b 3))
 
 -- what a tally comes to
 unfoldable pub countsIn : Tally → Counts

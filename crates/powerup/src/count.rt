@@ -27,9 +27,11 @@ ghost use Rattle.powerup.specs.Steps.{
   Tallied,
   Ready,
   Light,
+  Insides,
+  Room,
   dot,
   pokerOf,
-  runsOf,
+  byLength,
   runsIn,
   countsIn,
   Small,
@@ -76,37 +78,31 @@ fn counts_in(t: Tally) -> Counts
         poker,
         sum: squares(poker),
         runs: RunCounts {
-            zeros: runs_of_zeros(t),
-            ones: runs_of_ones(t),
+            zeros: runs_of(t, 0, ZEROS_OF_1, ZEROS_OF_2, ZEROS_OF_3),
+            ones: runs_of(t, 1, ONES_OF_1, ONES_OF_2, ONES_OF_3),
             longest: t.longest,
         },
     }
 }
 
-// The runs of zeros of each length: those that ended in the loop, and those inside a half-byte.
-fn runs_of_zeros(t: Tally) -> [u32; 6]
-    requires { ⌜ Small t ⌝ }
-    ensures { λ r. ⌜ r ≡ runsIn 0 t ⌝ }
+// The runs of one bit, by length: those that ended in the loop and those inside a half-byte. Weights of the pairs count the second kind, for the
+// lengths 1, 2 and 3. None is longer.
+fn runs_of(
+    t: Tally,
+    bit: usize,
+    singles: [u32; 32],
+    doubles: [u32; 32],
+    triples: [u32; 32],
+) -> [u32; 6]
+    requires { ⌜ Small t × (bit < 2) × Insides bit singles doubles triples ⌝ }
+    ensures { λ r. ⌜ r ≡ runsIn bit t ⌝ }
 {
     let pairs = t.pairs;
     let ended = t.ended;
-    let x = over_pairs(pairs, ZEROS_OF_1);
-    let y = over_pairs(pairs, ZEROS_OF_2);
-    let z = over_pairs(pairs, ZEROS_OF_3);
-    runs_of(ended, 0, x, y, z)
-}
-
-// The same for ones.
-fn runs_of_ones(t: Tally) -> [u32; 6]
-    requires { ⌜ Small t ⌝ }
-    ensures { λ r. ⌜ r ≡ runsIn 1 t ⌝ }
-{
-    let pairs = t.pairs;
-    let ended = t.ended;
-    let x = over_pairs(pairs, ONES_OF_1);
-    let y = over_pairs(pairs, ONES_OF_2);
-    let z = over_pairs(pairs, ONES_OF_3);
-    runs_of(ended, 7, x, y, z)
+    let x = over_pairs(pairs, singles);
+    let y = over_pairs(pairs, doubles);
+    let z = over_pairs(pairs, triples);
+    by_length(ended, 7 * bit, x, y, z)
 }
 
 // Reads every half-byte; then the last run has ended too.
@@ -151,21 +147,20 @@ fn with_half(run: LastRun, half: u32, pairs: &mut [u32; 32], ended: &mut [u32; 1
     ensures { λ r. ⌜ now (pairs .exit) ≡ raised (now (pairs .entry)) (pair (run .bit) half) ⌝ }
     ensures { λ r. ⌜ now (ended .exit) ≡ raised (now (ended .entry)) (place (run .bit) (stepped run half .ended)) ⌝ }
 {
-    let pair = (16 * run.bit + half) as usize;
-    pairs[pair] += 1;
-    let step = after(run, half);
+    let index = (16 * run.bit + half) as usize;
+    pairs[index] += 1;
+    let step = after(run, half, index);
     let at = place(run.bit, step.ended);
     ended[at] += 1;
     step.next
 }
 
 // The last run after four more bits, and the run that they ended.
-fn after(run: LastRun, half: u32) -> Step
-    requires { ⌜ (run .bit < 2) × (half < 16) × (run .length ≤ 100000) ⌝ }
+fn after(run: LastRun, half: u32, index: usize) -> Step
+    requires { ⌜ (run .bit < 2) × (half < 16) × (run .length ≤ 100000) × (index ≡ pair (run .bit) half) ⌝ }
     ensures { λ r. ⌜ r ≡ stepped run half ⌝ }
 {
-    let pair = (16 * run.bit + half) as usize;
-    let lead = LEADS[pair] as u32;
+    let lead = LEADS[index] as u32;
     if lead == 4 {
         return Step {
             next: LastRun {
@@ -182,7 +177,7 @@ fn after(run: LastRun, half: u32) -> Step
         next: LastRun {
             bit: half % 2,
             length: LASTS[at] as u32,
-            longest: larger(larger(run.longest, ended), INSIDES[pair] as u32),
+            longest: larger(larger(run.longest, ended), INSIDES[index] as u32),
         },
         ended,
     }
@@ -246,9 +241,9 @@ fn poker_counts(pairs: [u32; 32]) -> [u32; 16]
 }
 
 // The runs of one bit, whose places follow `first`; x, y and z are those of length 1, 2 and 3 inside a half-byte.
-fn runs_of(ended: [u32; 14], first: usize, x: u32, y: u32, z: u32) -> [u32; 6]
-    requires { ⌜ (first ≤ 7) × (x ≤ 3200000000) × (y ≤ 3200000000) × (z ≤ 3200000000) × Few ended 5001 ⌝ }
-    ensures { λ r. ⌜ r ≡ runsOf ended first x y z ⌝ }
+fn by_length(ended: [u32; 14], first: usize, x: u32, y: u32, z: u32) -> [u32; 6]
+    requires { ⌜ Room ended first x y z ⌝ }
+    ensures { λ r. ⌜ r ≡ byLength ended first x y z ⌝ }
 {
     [
         ended[first + 1] + x,

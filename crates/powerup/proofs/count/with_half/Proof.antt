@@ -6,14 +6,14 @@ use Rattle.powerup.specs.Steps.{pair, raised}
 use Rattle.powerup.proofs.count.with_half.Statement.{statement}
 use Rattle.powerup.proofs.count.with_half.Tie as tie
 
-mul-pair : tie.Need-mul-pair
-mul-pair c = search needs
+mul-index : tie.Need-mul-index
+mul-index c = search needs
 
-add-pair : tie.Need-add-pair
-add-pair c = search needs
+add-index : tie.Need-add-index
+add-index c = search needs
 
-cast-pair : tie.Need-cast-pair
-cast-pair c = search needs
+cast-index : tie.Need-cast-index
+cast-index c = search needs
 
 mul-pairs : tie.Need-mul-pairs
 mul-pairs c = search needs
@@ -56,9 +56,9 @@ pub with-half-spec : {M : Type 1} → statement M
 with-half-spec =
     tie.close
     (tie.spec
-    mul-pair
-    add-pair
-    cast-pair
+    mul-index
+    add-index
+    cast-index
     mul-pairs
     element-copy-out-pairs
     add-pairs
