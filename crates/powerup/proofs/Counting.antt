@@ -16,7 +16,7 @@ use Rattle.powerup.specs.declared.count.LastRun.{LastRun}
 use Rattle.powerup.specs.Bits.{byteBits, bits}
 use Rattle.powerup.specs.Counts.{run, occurrences, halfBytes, runsFrom, runs, isOf, howMany, longest}
 use Rattle.powerup.specs.Steps.{Few, raised, place, pair, leads, lasts, insides, stepped, halfBits, pairsFrom, pairsOf, innerRuns, total, Tallied, Ready}
-use Rattle.powerup.proofs.Lists.{either, Each, each, raised-length, raised-other, raised-few, many-cons, many-append, ended-raised, met-raised, longest-three, written-32}
+use Rattle.powerup.proofs.Lists.{either, Each, each, raised-length, raised-other, raised-few, many-cons, many-append, many-most, ended-raised, met-raised, longest-three, written-32}
 use Rattle.powerup.proofs.Shapes.{inside, no-inner, ends, shape}
 
 -- the runs of one kind that lie inside a pair's half-byte
@@ -44,7 +44,7 @@ Whole v = 8 * (v / 8 % 2) + 4 * (v / 4 % 2) + 2 * (v / 2 % 2) + v % 2 ≡ v
 
 all-whole : Each Whole 16
 unfolding Whole
-all-whole = ((((((((((((((((tt, refl), refl), refl), refl), refl), refl), refl), refl), refl), refl), refl), refl), refl), refl), refl), refl)
+all-whole = omega arith
 
 pub half-of : (v : ℕ) (rest : List ℕ) → v < 16 → halfBytes (halfBits v ++ rest) ≡ v ∷ halfBytes rest
 unfolding halfBytes Whole
@@ -64,7 +64,7 @@ module _ {all rest : List ℕ} {n : ℕ} {pairs ended : List ℕ} {o : LastRun} 
   -- The run goes on through the half-byte.
   module _ (t : eqb lead 4 ≡ true) where
     goes-on : Counting all rest (suc n) (raised pairs (pair (o .bit) v)) (raised ended (place (o .bit) 0)) (record { bit = v % 2; length = o .length + 4; longest = o .longest })
-    unfolding pairsFrom total howMany
+    unfolding pairsFrom total
     goes-on =
         let h : pair (o .bit) v < length pairs = omega (arith, c .bit, c .pairs-size) in
         let h2 : place (o .bit) 0 < length ended = omega (arith, c .bit, c .ended-size) in
@@ -79,8 +79,13 @@ module _ {all rest : List ℕ} {n : ℕ} {pairs ended : List ℕ} {o : LastRun} 
           paired = still-paired;
           counted = λ b k hb some most.
               let q = rw (e, half-of v rest hv) at (c .counted b k hb some most) in
-              let z : inner b k (pair (o .bit) v) ≡ 0 = rw (no-inner (pair (o .bit) v) (omega (arith, c .bit)) t) in
-              omega (arith, q, raised-other ended (place (o .bit) 0) (place b k) (λ z. omega arith));
+              omega (
+                arith,
+                q,
+                many-most b k (innerRuns (pair (o .bit) v)),
+                no-inner (pair (o .bit) v) (omega (arith, c .bit)) t,
+                raised-other ended (place (o .bit) 0) (place b k) (λ z. omega arith),
+              );
           long = rw e at (c .long);
         }
 

@@ -128,7 +128,7 @@ Once v = occurrences v sixteen ≡ 1
 
 all-once : Each Once 16
 unfolding Once occurrences
-all-once = ((((((((((((((((tt, refl), refl), refl), refl), refl), refl), refl), refl), refl), refl), refl), refl), refl), refl), refl), refl)
+all-once = omega arith
 
 added-all : (xs : List ℕ) → Under 16 xs → added (map (λ v. occurrences v xs) sixteen) ≡ length xs
 unfolding Once occurrences

@@ -57,6 +57,12 @@ many-append b k [] rs = omega arith
 many-append b k (q ∷ qs) rs =
     ⊎-elim (λ t. rw t (omega (arith, many-append b k qs rs))) (λ f. rw f (many-append b k qs rs)) (either (isOf b k q))
 
+pub many-most : (b k : ℕ) (rs : List Run) → howMany b k rs ≤ length rs
+unfolding howMany
+many-most b k [] = omega arith
+many-most b k (r ∷ rs) =
+    ⊎-elim (λ t. rw t (omega (arith, many-most b k rs))) (λ f. rw f (omega (arith, many-most b k rs))) (either (isOf b k r))
+
 pub longest-append : (qs rs : List Run) → longest (qs ++ rs) ≡ max (longest qs) (longest rs)
 unfolding longest
 longest-append [] rs = omega arith
@@ -114,7 +120,7 @@ module _ (f : ℕ → ℕ) where
 
   all-16 : Each At16 16
   unfolding At16
-  all-16 = ((((((((((((((((tt, refl), refl), refl), refl), refl), refl), refl), refl), refl), refl), refl), refl), refl), refl), refl), refl)
+  all-16 = omega arith
 
   pub at-16 : (i : ℕ) → i < 16 → getD (map f sixteen) i 0 ≡ f i
   unfolding At16
@@ -128,8 +134,7 @@ module _ (f : ℕ → ℕ) where
 
   all-32 : Each At32 32
   unfolding At32
-  all-32 =
-      ((((((((((((((((((((((((((((((((tt, refl), refl), refl), refl), refl), refl), refl), refl), refl), refl), refl), refl), refl), refl), refl), refl), refl), refl), refl), refl), refl), refl), refl), refl), refl), refl), refl), refl), refl), refl), refl), refl)
+  all-32 = omega arith
 
   pub at-32 : (i : ℕ) → i < 32 → getD (map f thirtyTwo) i 0 ≡ f i
   unfolding At32

@@ -1,15 +1,14 @@
 -- How a half-byte carries the open run on: at each of the 32 pairs of a bit and a half-byte the runs are computed. Assumes nothing.
 use mathlib.Core.Path.{_≡_, refl}
-use mathlib.Core.Bool.{true, cond, _&&_}
+use mathlib.Core.Bool.{true, cond}
 use mathlib.Core.List.{List, [], _∷_, _++_}
 use Prim.Native.Nat.{ℕ, zero, suc, _+_, _/_, _%_, _≤_, _<_}
 use native.Mathlib.Omega.{arith}
-use borrow.Author.Tests.{leb-true}
-use lib.Dec.{eqb, leb}
-use lib.ListN.{getD}
+use lib.Dec.{eqb}
+use lib.ListN.{length, getD}
 use Rattle.powerup.specs.Counts.{Run, run, runsFrom, longest}
 use Rattle.powerup.specs.Steps.{pair, leads, lasts, insides, halfBits, innerRuns, butLast}
-use Rattle.powerup.proofs.Lists.{both, Each, each}
+use Rattle.powerup.proofs.Lists.{Each, each}
 
 -- k more than n, for a numeral k
 abbrev more : ℕ → ℕ → ℕ
@@ -31,47 +30,42 @@ Shaped p = (n : ℕ) (rest : List ℕ) → runsFrom (p / 16) n (halfBits (p % 16
 
 all-shaped : Each Shaped 32
 unfolding runsFrom innerRuns butLast
-all-shaped =
-    ((((((((((((((((((((((((((((((((tt, λ n rest. refl), λ n rest. refl), λ n rest. refl), λ n rest. refl), λ n rest. refl), λ n rest. refl), λ n rest. refl), λ n rest. refl), λ n rest. refl), λ n rest. refl), λ n rest. refl), λ n rest. refl), λ n rest. refl), λ n rest. refl), λ n rest. refl), λ n rest. refl), λ n rest. refl), λ n rest. refl), λ n rest. refl), λ n rest. refl), λ n rest. refl), λ n rest. refl), λ n rest. refl), λ n rest. refl), λ n rest. refl), λ n rest. refl), λ n rest. refl), λ n rest. refl), λ n rest. refl), λ n rest. refl), λ n rest. refl), λ n rest. refl)
+all-shaped = search depth 70
 
 Inside : ℕ → Type 0
 Inside p = longest (innerRuns p) ≡ getD insides p 0
 
 all-inside : Each Inside 32
 unfolding Inside runsFrom innerRuns butLast longest
-all-inside =
-    ((((((((((((((((((((((((((((((((tt, refl), refl), refl), refl), refl), refl), refl), refl), refl), refl), refl), refl), refl), refl), refl), refl), refl), refl), refl), refl), refl), refl), refl), refl), refl), refl), refl), refl), refl), refl), refl), refl)
+all-inside = omega arith
 
 pub inside : (p : ℕ) → p < 32 → longest (innerRuns p) ≡ getD insides p 0
 unfolding Inside
 inside = each Inside 32 all-inside
 
 NoInner : ℕ → Type 0
-NoInner p = cond (eqb (getD leads p 0) 4) (innerRuns p) [] ≡ []
+NoInner p = cond (eqb (getD leads p 0) 4) (length (innerRuns p)) 0 ≡ 0
 
 all-no-inner : Each NoInner 32
 unfolding NoInner runsFrom innerRuns butLast
-all-no-inner =
-    ((((((((((((((((((((((((((((((((tt, refl), refl), refl), refl), refl), refl), refl), refl), refl), refl), refl), refl), refl), refl), refl), refl), refl), refl), refl), refl), refl), refl), refl), refl), refl), refl), refl), refl), refl), refl), refl), refl)
+all-no-inner = omega arith
 
 -- A run that goes on through a half-byte leaves no room for another.
-pub no-inner : (p : ℕ) → p < 32 → eqb (getD leads p 0) 4 ≡ true → innerRuns p ≡ []
+pub no-inner : (p : ℕ) → p < 32 → eqb (getD leads p 0) 4 ≡ true → length (innerRuns p) ≡ 0
 unfolding NoInner
 no-inner p h t = rw t at (each NoInner 32 all-no-inner p h)
 
 Low : ℕ → Type 0
-Low p = leb (getD leads p 0) 4 && leb (getD insides p 0) 3 ≡ true
+Low p = getD leads p 0 + getD insides p 0 ≤ 4
 
 all-low : Each Low 32
 unfolding Low
-all-low =
-    ((((((((((((((((((((((((((((((((tt, refl), refl), refl), refl), refl), refl), refl), refl), refl), refl), refl), refl), refl), refl), refl), refl), refl), refl), refl), refl), refl), refl), refl), refl), refl), refl), refl), refl), refl), refl), refl), refl)
+all-low = omega arith
 
-pub low : (p : ℕ) → p < 32 → (getD leads p 0 ≤ 4) × (getD insides p 0 ≤ 3)
+-- Both lie in the half-byte's four bits.
+pub low : (p : ℕ) → p < 32 → getD leads p 0 + getD insides p 0 ≤ 4
 unfolding Low
-low p h =
-    let e = both (leb (getD leads p 0) 4) (leb (getD insides p 0) 3) (each Low 32 all-low p h) in
-    (leb-true (getD leads p 0) 4 (e .0), leb-true (getD insides p 0) 3 (e .1))
+low = each Low 32 all-low
 
 Ends : ℕ → Type 0
 Ends v = getD lasts v 0 ≤ 4

@@ -12,7 +12,7 @@ use Rattle.powerup.specs.declared.count.Tally.{Tally}
 use Rattle.powerup.specs.Bits.{bits}
 use Rattle.powerup.specs.Counts.{Run, sixteen, sizes, occurrences, halfBytes, pokerCounts, sumOfSquares, runsFrom, runs, isOf, howMany, runCounts, countsOf}
 use Rattle.powerup.specs.Steps.{Few, Light, Small, Room, Tallied, pair, place, halfBits, pairsFrom, pairsOf, innerRuns, butLast, total, thirtyTwo, dot, pokerOf, onesAt, insideAt, runsIn, countsIn}
-use Rattle.powerup.proofs.Lists.{either, both, Each, each, at-16, written-16, at-32}
+use Rattle.powerup.proofs.Lists.{either, both, Each, each, many-most, at-16, written-16, at-32}
 use Rattle.powerup.proofs.Counting.{inner, half-of, byte-halves}
 
 -- Whether no number of a list is above n.
@@ -50,12 +50,6 @@ unfolding butLast
 but-last-most [] = omega arith
 but-last-most (r ∷ []) = omega arith
 but-last-most (r ∷ q ∷ rs) = omega (arith, but-last-most (q ∷ rs))
-
-many-most : (b k : ℕ) (rs : List Run) → howMany b k rs ≤ length rs
-unfolding howMany
-many-most b k [] = omega arith
-many-most b k (r ∷ rs) =
-    ⊎-elim (λ t. rw t (omega (arith, many-most b k rs))) (λ f. rw f (omega (arith, many-most b k rs))) (either (isOf b k r))
 
 inner-most : (b k p : ℕ) → inner b k p ≤ 5
 unfolding innerRuns
@@ -108,8 +102,7 @@ Once p = occurrences p thirtyTwo ≡ 1
 
 all-once : Each Once 32
 unfolding Once occurrences
-all-once =
-    ((((((((((((((((((((((((((((((((tt, refl), refl), refl), refl), refl), refl), refl), refl), refl), refl), refl), refl), refl), refl), refl), refl), refl), refl), refl), refl), refl), refl), refl), refl), refl), refl), refl), refl), refl), refl), refl), refl)
+all-once = omega arith
 
 -- Each number of a list weighed as often as it occurs.
 module _ (f : ℕ → ℕ) where
@@ -248,8 +241,7 @@ Short p = inner 0 4 p + inner 0 5 p + inner 0 6 p + (inner 1 4 p + inner 1 5 p +
 
 all-short : Each Short 32
 unfolding Short innerRuns butLast runsFrom howMany isOf
-all-short =
-    ((((((((((((((((((((((((((((((((tt, refl), refl), refl), refl), refl), refl), refl), refl), refl), refl), refl), refl), refl), refl), refl), refl), refl), refl), refl), refl), refl), refl), refl), refl), refl), refl), refl), refl), refl), refl), refl), refl)
+all-short = omega arith
 
 -- What a tally of a block's bits comes to.
 module _ (bytes : List ℕ) (t : Tally) (done : Tallied (bits bytes) t) where

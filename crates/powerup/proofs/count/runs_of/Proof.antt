@@ -25,10 +25,7 @@ by-length-requires c κs =
 
 returns : tie.Need-returns
 unfolding runsIn
-returns c =
-    let p = c .before .before .before .before .before .before .pre .2 in
-    c .by-length .ensures
-    ∙ rw (c .before .over-pairs3 .ensures .0, c .before .before .over-pairs2 .ensures .0, c .before .before .before .over-pairs .ensures .0, p .one, p .two, p .three)
+returns c = cc
 
 pub runs-of-spec : {M : Type 1} → statement M
 runs-of-spec =
