@@ -16,7 +16,7 @@ use Rattle.powerup.specs.declared.count.LastRun.{LastRun}
 use Rattle.powerup.specs.Bits.{byteBits, bits}
 use Rattle.powerup.specs.Counts.{run, occurrences, halfBytes, runsFrom, runs, isOf, howMany, longest}
 use Rattle.powerup.specs.Steps.{Few, raised, place, pair, leads, lasts, insides, stepped, halfBits, pairsFrom, pairsOf, innerRuns, total, Tallied, Ready}
-use Rattle.powerup.proofs.Lists.{either, Each, each, raised-length, raised-other, raised-few, many-cons, many-append, many-most, ended-raised, met-raised, longest-three, written-32}
+use Rattle.powerup.proofs.Lists.{either, Each, each, raised-length, raised-other, raised-few, many-cons, many-append, many-most, ended-raised, met-raised, longest-three, numbers-32, written}
 use Rattle.powerup.proofs.Shapes.{inside, no-inner, ends, shape}
 
 -- the runs of one kind that lie inside a pair's half-byte
@@ -39,16 +39,12 @@ pub record Counting (all rest : List ℕ) (n : ℕ) (pairs ended : List ℕ) (o 
       ≡ howMany b k (runsFrom 0 0 all) + total (inner b k) (pairsFrom (o .bit) (halfBytes rest))
   pub long : max (o .longest) (longest (runsFrom (o .bit) (o .length) rest)) ≡ longest (runsFrom 0 0 all)
 
-Whole : ℕ → Type 0
-Whole v = 8 * (v / 8 % 2) + 4 * (v / 4 % 2) + 2 * (v / 2 % 2) + v % 2 ≡ v
-
-all-whole : Each Whole 16
-unfolding Whole
-all-whole = omega arith
+whole : (v : ℕ) → v < 16 → 8 * (v / 8 % 2) + 4 * (v / 4 % 2) + 2 * (v / 2 % 2) + v % 2 ≡ v
+whole = each (λ v. 8 * (v / 8 % 2) + 4 * (v / 4 % 2) + 2 * (v / 2 % 2) + v % 2 ≡ v) 16 (omega arith)
 
 pub half-of : (v : ℕ) (rest : List ℕ) → v < 16 → halfBytes (halfBits v ++ rest) ≡ v ∷ halfBytes rest
-unfolding halfBytes Whole
-half-of v rest h = rw (each Whole 16 all-whole v h)
+unfolding halfBytes
+half-of v rest h = rw (whole v h)
 
 module _ {all rest : List ℕ} {n : ℕ} {pairs ended : List ℕ} {o : LastRun} (v : ℕ) (hv : v < 16)
     (c : Counting all (halfBits v ++ rest) n pairs ended o) where
@@ -218,7 +214,7 @@ module _ {all : List ℕ} {n : ℕ} {pairs ended : List ℕ} {o : LastRun} (c : 
   all-read =
       let h : place (o .bit) (o .length) < length ended = omega (arith, c .bit, c .ended-size) in
       record {
-        pairs = written-32 (λ p. occurrences p (pairsOf all)) pairs (c .pairs-size) (λ p _. omega (arith, c .paired p));
+        pairs = written numbers-32 (λ p. occurrences p (pairsOf all)) pairs (c .pairs-size) (λ p _. omega (arith, c .paired p));
         ended = λ b k hb some most.
             omega (
               arith,

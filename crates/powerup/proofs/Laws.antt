@@ -15,10 +15,11 @@ use Rattle.powerup.specs.declared.Counts.{Counts}
 use Rattle.powerup.specs.declared.Answer.the-variants.{WrongLength, WrongEdition}
 use Rattle.powerup.specs.Bits.{bits}
 use Rattle.powerup.specs.Counts.{Run, runsFrom, runs, occurrences, halfBytes, pokerCounts, sixteen}
+use Rattle.powerup.specs.Steps.{total, dot}
 use Rattle.powerup.specs.Verdicts.{between, within, verdictsOf}
 use Rattle.powerup.specs.Reply.{refused, judged, replyOf}
-use Rattle.powerup.proofs.Lists.{either, both, Each, each}
-use Rattle.powerup.proofs.Weighing.{Under, halves-under, halves-length}
+use Rattle.powerup.proofs.Lists.{either, both, numbers-16}
+use Rattle.powerup.proofs.Weighing.{Under, weigh, halves-under, halves-length}
 
 -- the bits of runs
 abbrev pub spelled : List Run → List ℕ
@@ -111,34 +112,25 @@ abbrev pub added : List ℕ → ℕ
 added [] = 0
 added (x ∷ xs) = x + added xs
 
-added-one :
-    (x : ℕ) (xs vs : List ℕ)
-    → added (map (λ v. occurrences v (x ∷ xs)) vs) ≡ occurrences x vs + added (map (λ v. occurrences v xs) vs)
-unfolding occurrences
-added-one x xs [] = refl
-added-one x xs (v ∷ vs) =
-    ⊎-elim (λ t. let q : x ≡ v = eqb-true x v t in rw (t, eq-eqb v x (sym q)) (omega (arith, added-one x xs vs)))
-    (λ n.
-    let first : occurrences v (x ∷ xs) ≡ occurrences v xs = rw n in
-    let second : occurrences x (v ∷ vs) ≡ occurrences x vs = rw (ne-eqb v x (λ q. eqb-false x v n (sym q))) in
-    omega (arith, first, second, added-one x xs vs)) (either (eqb x v))
+added-weighed : (f : ℕ → ℕ) (vs : List ℕ) → added (map f vs) ≡ dot (map f vs) (map (λ _. 1) vs)
+unfolding dot
+added-weighed f [] = refl
+added-weighed f (v ∷ vs) = omega (arith, added-weighed f vs)
 
-Once : ℕ → Type 0
-Once v = occurrences v sixteen ≡ 1
-
-all-once : Each Once 16
-unfolding Once occurrences
-all-once = omega arith
-
-added-all : (xs : List ℕ) → Under 16 xs → added (map (λ v. occurrences v xs) sixteen) ≡ length xs
-unfolding Once occurrences
-added-all [] u = refl
-added-all (x ∷ xs) u = omega (arith, added-one x xs sixteen, each Once 16 all-once x (u .0), added-all xs (u .1))
+total-of-ones : (xs : List ℕ) → total (λ _. 1) xs ≡ length xs
+unfolding total
+total-of-ones [] = refl
+total-of-ones (x ∷ xs) = omega (arith, total-of-ones xs)
 
 -- The poker counts add up to two for each byte: 5,000 in 2,500 bytes.
 pub poker-adds-up : (bytes : List ℕ) → added (pokerCounts (bits bytes)) ≡ 2 * length bytes
 unfolding pokerCounts
-poker-adds-up bytes = added-all (halfBytes (bits bytes)) (halves-under bytes) ∙ halves-length bytes
+poker-adds-up bytes =
+    let hs = halfBytes (bits bytes) in
+    added-weighed (λ v. occurrences v hs) sixteen
+    ∙ weigh (λ _. 1) numbers-16 hs (halves-under bytes)
+    ∙ total-of-ones hs
+    ∙ halves-length bytes
 
 -- The monobit interval leaves its ends out, and the others keep theirs.
 pub between-exactly : (i : Interval) (n : ℕ) → (between i n ≡ true) ↔ ((i .low < n) × (n < i .high))

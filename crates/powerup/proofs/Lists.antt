@@ -8,7 +8,7 @@ use native.Mathlib.Omega.{arith}
 use native.Mathlib.Numerals.{add-one}
 use borrow.Author.Tests.{eqb-true, eqb-false, eq-eqb}
 use lib.Dec.{eqb}
-use lib.ListN.{length, getD, drop, length-set}
+use lib.ListN.{length, getD, drop, length-set, length-map}
 use lib.Seq.{getD-set-same, getD-set-other, drop-cons, ext-getD}
 use Rattle.powerup.specs.declared.Interval.{Interval}
 use Rattle.powerup.specs.Verdicts.{within, allWithin}
@@ -113,35 +113,41 @@ met-raised l xs x p h =
     ⊎-elim (λ t. let q : x ≡ p = eqb-true x p t in rw (t, ← q, raised-same l x h) (omega arith))
     (λ f. rw f (omega (arith, raised-other l x p (λ q. eqb-false x p f (sym q))))) (either (eqb x p))
 
--- A list that is a function of its places is written out.
-module _ (f : ℕ → ℕ) where
-  At16 : ℕ → Type 0
-  At16 i = getD (map f sixteen) i 0 ≡ f i
+-- A list of the numbers below n, in order.
+pub record Numbers (l : List ℕ) (n : ℕ) : Type 0 where
+  pub size : length l ≡ n
+  pub at : (i : ℕ) → i < n → getD l i 0 ≡ i
+  pub once : (v : ℕ) → v < n → occurrences v l ≡ 1
 
-  all-16 : Each At16 16
-  unfolding At16
-  all-16 = omega arith
+pub numbers-16 : Numbers sixteen 16
+unfolding occurrences
+numbers-16 = record {
+  size = refl;
+  at = each (λ i. getD sixteen i 0 ≡ i) 16 (omega arith);
+  once = each (λ v. occurrences v sixteen ≡ 1) 16 (omega arith);
+}
 
-  pub at-16 : (i : ℕ) → i < 16 → getD (map f sixteen) i 0 ≡ f i
-  unfolding At16
-  at-16 = each At16 16 all-16
+pub numbers-32 : Numbers thirtyTwo 32
+unfolding occurrences
+numbers-32 = record {
+  size = refl;
+  at = each (λ i. getD thirtyTwo i 0 ≡ i) 32 (omega arith);
+  once = each (λ v. occurrences v thirtyTwo ≡ 1) 32 (omega arith);
+}
 
-  pub written-16 : (l : List ℕ) → length l ≡ 16 → ((i : ℕ) → i < 16 → getD l i 0 ≡ f i) → l ≡ map f sixteen
-  written-16 l size e = ext-getD 0 l (map f sixteen) size (λ i h. e i (omega arith) ∙ sym (at-16 i (omega arith)))
+mapped-at : (f : ℕ → ℕ) (l : List ℕ) (i : ℕ) → i < length l → getD (map f l) i 0 ≡ f (getD l i 0)
+mapped-at f [] i h = absurd (omega arith)
+mapped-at f (x ∷ xs) zero h = refl
+mapped-at f (x ∷ xs) (suc i) h = mapped-at f xs i (omega arith)
 
-  At32 : ℕ → Type 0
-  At32 i = getD (map f thirtyTwo) i 0 ≡ f i
+-- A list that is a function of its places is the function mapped over the numbers.
+module _ {ns : List ℕ} {n : ℕ} (all : Numbers ns n) (f : ℕ → ℕ) where
+  pub at-place : (i : ℕ) → i < n → getD (map f ns) i 0 ≡ f i
+  at-place i h = mapped-at f ns i (omega (arith, all .size)) ∙ ap f (all .at i h)
 
-  all-32 : Each At32 32
-  unfolding At32
-  all-32 = omega arith
-
-  pub at-32 : (i : ℕ) → i < 32 → getD (map f thirtyTwo) i 0 ≡ f i
-  unfolding At32
-  at-32 = each At32 32 all-32
-
-  pub written-32 : (l : List ℕ) → length l ≡ 32 → ((i : ℕ) → i < 32 → getD l i 0 ≡ f i) → l ≡ map f thirtyTwo
-  written-32 l size e = ext-getD 0 l (map f thirtyTwo) size (λ i h. e i (omega arith) ∙ sym (at-32 i (omega arith)))
+  pub written : (l : List ℕ) → length l ≡ n → ((i : ℕ) → i < n → getD l i 0 ≡ f i) → l ≡ map f ns
+  written l size e =
+      ext-getD 0 l (map f ns) (size ∙ sym (length-map ns f ∙ all .size)) (λ i h. e i (omega arith) ∙ sym (at-place i (omega arith)))
 
 -- One more product of a sum.
 pub dot-next :

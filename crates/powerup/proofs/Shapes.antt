@@ -32,51 +32,21 @@ all-shaped : Each Shaped 32
 unfolding runsFrom innerRuns butLast
 all-shaped = search depth 70
 
-Inside : ℕ → Type 0
-Inside p = longest (innerRuns p) ≡ getD insides p 0
-
-all-inside : Each Inside 32
-unfolding Inside runsFrom innerRuns butLast longest
-all-inside = omega arith
-
 pub inside : (p : ℕ) → p < 32 → longest (innerRuns p) ≡ getD insides p 0
-unfolding Inside
-inside = each Inside 32 all-inside
-
-NoInner : ℕ → Type 0
-NoInner p = cond (eqb (getD leads p 0) 4) (length (innerRuns p)) 0 ≡ 0
-
-all-no-inner : Each NoInner 32
-unfolding NoInner runsFrom innerRuns butLast
-all-no-inner = omega arith
+unfolding runsFrom innerRuns butLast longest
+inside = each (λ p. longest (innerRuns p) ≡ getD insides p 0) 32 (omega arith)
 
 -- A run that goes on through a half-byte leaves no room for another.
 pub no-inner : (p : ℕ) → p < 32 → eqb (getD leads p 0) 4 ≡ true → length (innerRuns p) ≡ 0
-unfolding NoInner
-no-inner p h t = rw t at (each NoInner 32 all-no-inner p h)
+unfolding runsFrom innerRuns butLast
+no-inner p h t = rw t at (each (λ p. cond (eqb (getD leads p 0) 4) (length (innerRuns p)) 0 ≡ 0) 32 (omega arith) p h)
 
-Low : ℕ → Type 0
-Low p = getD leads p 0 + getD insides p 0 ≤ 4
-
-all-low : Each Low 32
-unfolding Low
-all-low = omega arith
-
--- Both lie in the half-byte's four bits.
+-- The bits that carry the open run on and the longest run after them lie in the half-byte.
 pub low : (p : ℕ) → p < 32 → getD leads p 0 + getD insides p 0 ≤ 4
-unfolding Low
-low = each Low 32 all-low
-
-Ends : ℕ → Type 0
-Ends v = getD lasts v 0 ≤ 4
-
-all-ends : Each Ends 16
-unfolding Ends
-all-ends = omega arith
+low = each (λ p. getD leads p 0 + getD insides p 0 ≤ 4) 32 (omega arith)
 
 pub ends : (v : ℕ) → v < 16 → getD lasts v 0 ≤ 4
-unfolding Ends
-ends = each Ends 16 all-ends
+ends = each (λ v. getD lasts v 0 ≤ 4) 16 (omega arith)
 
 module _ (b v : ℕ) (hb : b < 2) (hv : v < 16) where
   -- what a half-byte does to a run of n bits b

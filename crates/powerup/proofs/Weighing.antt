@@ -12,7 +12,7 @@ use Rattle.powerup.specs.declared.count.Tally.{Tally}
 use Rattle.powerup.specs.Bits.{bits}
 use Rattle.powerup.specs.Counts.{Run, sixteen, sizes, occurrences, halfBytes, pokerCounts, sumOfSquares, runsFrom, runs, isOf, howMany, runCounts, countsOf}
 use Rattle.powerup.specs.Steps.{Few, Light, Small, Room, Tallied, pair, place, halfBits, pairsFrom, pairsOf, innerRuns, butLast, total, thirtyTwo, dot, pokerOf, onesAt, insideAt, runsIn, countsIn}
-use Rattle.powerup.proofs.Lists.{either, both, Each, each, many-most, at-16, written-16, at-32}
+use Rattle.powerup.proofs.Lists.{either, both, Each, each, many-most, Numbers, numbers-16, numbers-32, at-place, written}
 use Rattle.powerup.proofs.Counting.{inner, half-of, byte-halves}
 
 -- Whether no number of a list is above n.
@@ -97,13 +97,6 @@ abbrev pub Under : ℕ → List ℕ → Type 0
 Under n [] = Unit
 Under n (x ∷ xs) = (x < n) × Under n xs
 
-Once : ℕ → Type 0
-Once p = occurrences p thirtyTwo ≡ 1
-
-all-once : Each Once 32
-unfolding Once occurrences
-all-once = omega arith
-
 -- Each number of a list weighed as often as it occurs.
 module _ (f : ℕ → ℕ) where
   weigh-none : (vs : List ℕ) → dot (map (λ p. occurrences p []) vs) (map f vs) ≡ 0
@@ -123,11 +116,13 @@ module _ (f : ℕ → ℕ) where
       let second : occurrences x (v ∷ vs) ≡ occurrences x vs = rw (ne-eqb v x (λ q. eqb-false x v n (sym q))) in
       omega (arith, ap (λ (m : ℕ). m * f v) first, ap (λ (m : ℕ). m * f x) second, weigh-one x xs vs)) (either (eqb x v))
 
-  weigh : (ps : List ℕ) → Under 32 ps → dot (map (λ p. occurrences p ps) thirtyTwo) (map f thirtyTwo) ≡ total f ps
-  unfolding Once total
-  weigh [] u = weigh-none thirtyTwo
-  weigh (p ∷ ps) u =
-      omega (arith, weigh-one p ps thirtyTwo, ap (λ (n : ℕ). n * f p) (each Once 32 all-once p (u .0)), weigh ps (u .1))
+  pub weigh :
+      {ns : List ℕ} {n : ℕ} → Numbers ns n → (xs : List ℕ) → Under n xs
+      → dot (map (λ v. occurrences v xs) ns) (map f ns) ≡ total f xs
+  unfolding total
+  weigh {ns} all [] u = weigh-none ns
+  weigh {ns} all (x ∷ xs) u =
+      omega (arith, weigh-one x xs ns, ap (λ (n : ℕ). n * f x) (all .once x (u .0)), weigh all xs (u .1))
 
   total-zero : (ps : List ℕ) → Under 32 ps → ((p : ℕ) → p < 32 → f p ≡ 0) → total f ps ≡ 0
   unfolding total
@@ -249,7 +244,7 @@ module _ (bytes : List ℕ) (t : Tally) (done : Tallied (bits bytes) t) where
   pairs-below = pairs-under 0 (omega arith) (halfBytes (bits bytes)) (halves-under bytes)
 
   weighed : (f : ℕ → ℕ) → dot (t .pairs) (map f thirtyTwo) ≡ total f (pairsOf (bits bytes))
-  weighed f = rw (done .pairs) (weigh f (pairsOf (bits bytes)) pairs-below)
+  weighed f = rw (done .pairs) (weigh f numbers-32 (pairsOf (bits bytes)) pairs-below)
 
   ones-right : dot (t .pairs) onesAt ≡ occurrences 1 (bits bytes)
   unfolding onesAt
@@ -259,11 +254,11 @@ module _ (bytes : List ℕ) (t : Tally) (done : Tallied (bits bytes) t) where
   unfolding pokerOf pokerCounts
   poker-right =
       let ps = pairsOf (bits bytes) in
-      written-16 (λ v. occurrences v (halfBytes (bits bytes))) (pokerOf (t .pairs)) refl
+      written numbers-16 (λ v. occurrences v (halfBytes (bits bytes))) (pokerOf (t .pairs)) refl
       (λ v h.
-      let low : getD (t .pairs) v 0 ≡ occurrences v (pairsOf (bits bytes)) = rw (done .pairs) (at-32 (λ p. occurrences p (pairsOf (bits bytes))) v (omega arith)) in
-      let high : getD (t .pairs) (16 + v) 0 ≡ occurrences (16 + v) (pairsOf (bits bytes)) = rw (done .pairs) (at-32 (λ p. occurrences p (pairsOf (bits bytes))) (16 + v) (omega arith)) in
-      at-16 (λ i. getD (t .pairs) i 0 + getD (t .pairs) (16 + i) 0) v h
+      let low : getD (t .pairs) v 0 ≡ occurrences v (pairsOf (bits bytes)) = rw (done .pairs) (at-place numbers-32 (λ p. occurrences p (pairsOf (bits bytes))) v (omega arith)) in
+      let high : getD (t .pairs) (16 + v) 0 ≡ occurrences (16 + v) (pairsOf (bits bytes)) = rw (done .pairs) (at-place numbers-32 (λ p. occurrences p (pairsOf (bits bytes))) (16 + v) (omega arith)) in
+      at-place numbers-16 (λ i. getD (t .pairs) i 0 + getD (t .pairs) (16 + i) 0) v h
       ∙ omega (arith, low, high, poker-total 0 (omega arith) (halfBytes (bits bytes)) (halves-under bytes) v h))
 
   runs-right : (b : ℕ) → b < 2 → ((p : ℕ) → p < 32 → inner b 4 p + inner b 5 p + inner b 6 p ≡ 0) → runsIn b t ≡ map (λ k. howMany b k (runs (bits bytes))) sizes
