@@ -3,14 +3,14 @@ use mathlib.Core.Path.{_≡_, refl, ap, sym, _∙_}
 use mathlib.Core.Bool.{Bool, true, cond, _&&_}
 use mathlib.Core.List.{List, [], _∷_, _++_, map}
 use mathlib.Core.Logic.{⊎-elim}
-use Prim.Native.Nat.{ℕ, zero, suc, _+_, _*_, _/_, _%_, _≤_, _<_}
+use Prim.Native.Nat.{ℕ, zero, suc, _+_, _*_, _/_, _%_, _≤_, _<_, min}
 use native.Mathlib.Omega.{arith}
 use borrow.Author.Tests.{leb-true, eqb-true, eqb-false, eq-eqb, ne-eqb}
 use lib.Dec.{eqb, leb}
 use lib.ListN.{length, getD, drop, length-drop}
 use Rattle.powerup.specs.declared.count.Tally.{Tally}
 use Rattle.powerup.specs.Bits.{bits}
-use Rattle.powerup.specs.Counts.{Run, sixteen, sizes, occurrences, halfBytes, pokerCounts, sumOfSquares, runsFrom, runs, isOf, howMany, runCounts, countsOf}
+use Rattle.powerup.specs.Counts.{Run, sixteen, sizes, occurrences, halfBytes, pokerCounts, sumOfSquares, runsFrom, runs, isOf, howMany, longest, runCounts, countsOf}
 use Rattle.powerup.specs.Steps.{Few, Light, Small, Room, Tallied, pair, place, halfBits, pairsFrom, pairsOf, innerRuns, butLast, total, thirtyTwo, dot, pokerOf, onesAt, insideAt, runsIn, countsIn}
 use Rattle.powerup.proofs.Lists.{either, both, Each, each, many-most, Numbers, numbers-16, numbers-32, at-place, written}
 use Rattle.powerup.proofs.Counting.{inner, half-of, byte-halves}
@@ -231,12 +231,16 @@ poker-total x hx (h ∷ vs) u v hv =
     )
 
 -- No run of four or more lies inside a half-byte.
-Short : ℕ → Type 0
-Short p = inner 0 4 p + inner 0 5 p + inner 0 6 p + (inner 1 4 p + inner 1 5 p + inner 1 6 p) ≡ 0
+short : (p : ℕ) → p < 32 → longest (innerRuns p) ≤ 3
+unfolding innerRuns butLast runsFrom longest
+short = each (λ p. longest (innerRuns p) ≤ 3) 32 (omega arith)
 
-all-short : Each Short 32
-unfolding Short innerRuns butLast runsFrom howMany isOf
-all-short = omega arith
+none-longer : (b k : ℕ) (rs : List Run) → longest rs < k → k ≤ 6 → howMany b k rs ≡ 0
+unfolding howMany isOf longest
+none-longer b k [] h most = refl
+none-longer b k (r ∷ rs) h most =
+    ⊎-elim (λ t. absurd (omega (arith, eqb-true (min (r .len) 6) k (both (eqb (r .bit) b) (eqb (min (r .len) 6) k) t .1))))
+    (λ f. rw f (none-longer b k rs (omega arith) most)) (either (isOf b k r))
 
 -- What a tally of a block's bits comes to.
 module _ (bytes : List ℕ) (t : Tally) (done : Tallied (bits bytes) t) where
@@ -261,32 +265,30 @@ module _ (bytes : List ℕ) (t : Tally) (done : Tallied (bits bytes) t) where
       at-place numbers-16 (λ i. getD (t .pairs) i 0 + getD (t .pairs) (16 + i) 0) v h
       ∙ omega (arith, low, high, poker-total 0 (omega arith) (halfBytes (bits bytes)) (halves-under bytes) v h))
 
-  runs-right : (b : ℕ) → b < 2 → ((p : ℕ) → p < 32 → inner b 4 p + inner b 5 p + inner b 6 p ≡ 0) → runsIn b t ≡ map (λ k. howMany b k (runs (bits bytes))) sizes
+  runs-right : (b : ℕ) → b < 2 → runsIn b t ≡ map (λ k. howMany b k (runs (bits bytes))) sizes
   unfolding runsIn insideAt
-  runs-right b h short =
+  runs-right b h =
       let some : (k : ℕ) → 0 < k → k ≤ 6 → getD (t .ended) (place b k) 0 + dot (t .pairs) (insideAt b k) ≡ howMany b k (runs (bits bytes)) =
       λ k l m. omega (arith, done .ended b k h l m, weighed (inner b k)) in
-      let none : (k : ℕ) → 0 < k → k ≤ 6 → ((p : ℕ) → p < 32 → inner b k p ≡ 0) → getD (t .ended) (place b k) 0 ≡ howMany b k (runs (bits bytes)) =
-      λ k l m z. omega (arith, done .ended b k h l m, total-zero (inner b k) (pairsOf (bits bytes)) pairs-below z) in
+      let none : (k : ℕ) → 3 < k → k ≤ 6 → getD (t .ended) (place b k) 0 ≡ howMany b k (runs (bits bytes)) =
+      λ k l m.
+      omega (
+        arith,
+        done .ended b k h (omega arith) m,
+        total-zero (inner b k) (pairsOf (bits bytes)) pairs-below (λ p q. none-longer b k (innerRuns p) (omega (arith, short p q)) m),
+      ) in
       cc (
         some 1 (omega arith) (omega arith),
         some 2 (omega arith) (omega arith),
         some 3 (omega arith) (omega arith),
-        none 4 (omega arith) (omega arith) (λ p l. omega (arith, short p l)),
-        none 5 (omega arith) (omega arith) (λ p l. omega (arith, short p l)),
-        none 6 (omega arith) (omega arith) (λ p l. omega (arith, short p l)),
+        none 4 (omega arith) (omega arith),
+        none 5 (omega arith) (omega arith),
+        none 6 (omega arith) (omega arith),
       )
 
   pub counts-right : countsIn t ≡ countsOf (bits bytes)
-  unfolding Short countsIn countsOf runCounts
-  counts-right =
-      rw (
-        ones-right,
-        poker-right,
-        runs-right 0 (omega arith) (λ p h. omega (arith, each Short 32 all-short p h)),
-        runs-right 1 (omega arith) (λ p h. omega (arith, each Short 32 all-short p h)),
-        done .longest,
-      )
+  unfolding countsIn countsOf runCounts
+  counts-right = rw (ones-right, poker-right, runs-right 0 (omega arith), runs-right 1 (omega arith), done .longest)
 
   pub small : Small t
   small = record { size = rw (done .pairs); pairs = done .few-pairs; ended = done .few-ended }

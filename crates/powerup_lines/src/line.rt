@@ -29,10 +29,19 @@ fn put_judged(out: &mut [u8], at: usize, reply: Reply, counts: bool) -> usize
     put(out, to, b"\n")
 }
 
+// A dash for each of the seven results, and for each of the 28 counts.
 fn put_refused(out: &mut [u8], at: usize, counts: bool) -> usize
     ensures { λ r. ⌜ r ≤ length (now (out .exit)) ⌝ }
 {
-    let to = put_dashes(out, at, if counts { 35 } else { 7 });
+    let to = put(out, at, b"\t-\t-\t-\t-\t-\t-\t-");
+    if counts {
+        let end = put(
+            out,
+            to,
+            b"\t-\t-\t-\t-\t-\t-\t-\t-\t-\t-\t-\t-\t-\t-\t-\t-\t-\t-\t-\t-\t-\t-\t-\t-\t-\t-\t-\t-",
+        );
+        return put(out, end, b"\n");
+    }
     put(out, to, b"\n")
 }
 
@@ -86,18 +95,6 @@ fn put_numbers(out: &mut [u8], at: usize, numbers: &[u32]) -> usize
     let mut i: usize = 0;
     while i < numbers.len() {
         to = put_number(out, to, numbers[i]);
-        i += 1;
-    }
-    to
-}
-
-fn put_dashes(out: &mut [u8], at: usize, n: usize) -> usize
-    ensures { λ r. ⌜ r ≤ length (now (out .exit)) ⌝ }
-{
-    let mut to = put(out, at, b"");
-    let mut i: usize = 0;
-    while i < n {
-        to = put(out, to, b"\t-");
         i += 1;
     }
     to
