@@ -12,6 +12,15 @@ pub(crate) fn put_reply(out: &mut [u8], number: u64, reply: Reply, counts: bool)
     let answer = reply.answer;
     let first = put_digits(out, 0, number);
     let at = put_number(out, first, answer.number());
+    let end = put_fields(out, at, reply, counts);
+    put(out, end, b"\n")
+}
+
+// What follows the answer's number.
+fn put_fields(out: &mut [u8], at: usize, reply: Reply, counts: bool) -> usize
+    ensures { λ r. ⌜ r ≤ length (now (out .exit)) ⌝ }
+{
+    let answer = reply.answer;
     match answer {
         Answer::Done => put_judged(out, at, reply, counts),
         _ => put_refused(out, at, counts),
@@ -23,26 +32,26 @@ fn put_judged(out: &mut [u8], at: usize, reply: Reply, counts: bool) -> usize
 {
     let to = put_results(out, at, reply);
     if counts {
-        let end = put_counts(out, to, reply.counts);
-        return put(out, end, b"\n");
+        put_counts(out, to, reply.counts)
+    } else {
+        to
     }
-    put(out, to, b"\n")
 }
 
-// A dash for each of the seven results, and for each of the 28 counts.
+// A dash for each of the 7 results, and for each of the 28 counts.
 fn put_refused(out: &mut [u8], at: usize, counts: bool) -> usize
     ensures { λ r. ⌜ r ≤ length (now (out .exit)) ⌝ }
 {
     let to = put(out, at, b"\t-\t-\t-\t-\t-\t-\t-");
     if counts {
-        let end = put(
+        put(
             out,
             to,
             b"\t-\t-\t-\t-\t-\t-\t-\t-\t-\t-\t-\t-\t-\t-\t-\t-\t-\t-\t-\t-\t-\t-\t-\t-\t-\t-\t-\t-",
-        );
-        return put(out, end, b"\n");
+        )
+    } else {
+        to
     }
-    put(out, to, b"\n")
 }
 
 fn put_results(out: &mut [u8], at: usize, reply: Reply) -> usize
