@@ -1,4 +1,4 @@
--- Laws of the lists that are counted: a number raised, occurrences, runs of one kind, the longest. Assumes nothing.
+-- Laws about lists: a number raised by one, occurrences, runs of one kind, the longest run, functions of the numbers below n. Assumes nothing.
 use mathlib.Core.Path.{_≡_, refl, ap, sym, _∙_}
 use mathlib.Core.Bool.{Bool, true, false, cond, _&&_}
 use mathlib.Core.List.{List, [], _∷_, _++_, map}
@@ -19,7 +19,7 @@ pub either : (t : Bool) → (t ≡ true) ⊎ (t ≡ false)
 either true = inl refl
 either false = inr refl
 
--- what holds of each number below n, one after the other
+-- P holds for each number below n, as a tuple. With numerals `omega` proves it by computation.
 abbrev pub Each : (ℕ → Type 0) → ℕ → Type 0
 Each P zero = Unit
 Each P (suc n) = Each P n × P n
@@ -29,6 +29,7 @@ each P zero e v h = absurd (omega arith)
 each P (suc n) e v h =
     ⊎-elim (λ t. rw (eqb-true v n t) (e .1)) (λ f. each P n (e .0) v (omega (arith, eqb-false v n f))) (either (eqb v n))
 
+-- Raising one number keeps the length and the other numbers.
 module _ (l : List ℕ) (i : ℕ) where
   pub raised-length : length (raised l i) ≡ length l
   unfolding raised
@@ -47,6 +48,7 @@ module _ (l : List ℕ) (i : ℕ) where
       ⊎-elim (λ t. let q : j ≡ i = eqb-true j i t in rw (q, raised-same h) (omega (arith, few i)))
       (λ f. rw (raised-other j (eqb-false j i f)) (omega (arith, few j))) (either (eqb j i))
 
+-- Runs of one kind are counted run by run, list by list, and are no more than the runs.
 pub many-cons : (b k : ℕ) (r : Run) (rs : List Run) → howMany b k (r ∷ rs) ≡ howMany b k (r ∷ []) + howMany b k rs
 unfolding howMany
 many-cons b k r rs = ⊎-elim (λ t. rw t (omega arith)) (λ f. rw f (omega arith)) (either (isOf b k r))
@@ -68,7 +70,7 @@ unfolding longest
 longest-append [] rs = omega arith
 longest-append (q ∷ qs) rs = omega (arith, longest-append qs rs)
 
--- The longest of a run, of runs that it is followed by, and of those after them.
+-- The longest of a run, the runs qs after it and the runs rs after those; a was the longest before, i is the longest of qs.
 pub longest-three :
     (a b n i : ℕ) (qs rs : List Run)
     → longest qs ≡ i
@@ -85,7 +87,7 @@ pub both : (a b : Bool) → a && b ≡ true → (a ≡ true) × (b ≡ true)
 both true b h = (refl, h)
 both false b h = (h, cc)
 
--- A run that has ended is raised at its own place and at no other.
+-- Counting an ended run raises the number of its own kind and no other.
 module _ (l : List ℕ) (size : length l ≡ 14) (c m b k : ℕ) (hc : c < 2) (hb : b < 2) (some : 0 < k) (most : k ≤ 6) where
   pub ended-raised : getD (raised l (place c m)) (place b k) 0 ≡ getD l (place b k) 0 + howMany b k (run c m ∷ [])
   unfolding howMany isOf
@@ -106,14 +108,14 @@ module _ (l : List ℕ) (size : length l ≡ 14) (c m b k : ℕ) (hc : c < 2) (h
       ∙ omega arith))
       (either (eqb c b && eqb (min m 6) k))
 
--- A number that was met is raised at its own place and at no other.
+-- Counting a number x that is read raises the number at x and no other.
 pub met-raised : (l xs : List ℕ) (x p : ℕ) → x < length l → getD (raised l x) p 0 + occurrences p xs ≡ getD l p 0 + occurrences p (x ∷ xs)
 unfolding occurrences
 met-raised l xs x p h =
     ⊎-elim (λ t. let q : x ≡ p = eqb-true x p t in rw (t, ← q, raised-same l x h) (omega arith))
     (λ f. rw f (omega (arith, raised-other l x p (λ q. eqb-false x p f (sym q))))) (either (eqb x p))
 
--- A list of the numbers below n, in order.
+-- l is the list of the numbers below n, in order; so each occurs once.
 pub record Numbers (l : List ℕ) (n : ℕ) : Type 0 where
   pub size : length l ≡ n
   pub at : (i : ℕ) → i < n → getD l i 0 ≡ i
@@ -140,7 +142,7 @@ mapped-at f [] i h = absurd (omega arith)
 mapped-at f (x ∷ xs) zero h = refl
 mapped-at f (x ∷ xs) (suc i) h = mapped-at f xs i (omega arith)
 
--- A list that is a function of its places is the function mapped over the numbers.
+-- A list whose number at each place i is f i is f mapped over the numbers below n.
 module _ {ns : List ℕ} {n : ℕ} (all : Numbers ns n) (f : ℕ → ℕ) where
   pub at-place : (i : ℕ) → i < n → getD (map f ns) i 0 ≡ f i
   at-place i h = mapped-at f ns i (omega (arith, all .size)) ∙ ap f (all .at i h)
@@ -149,13 +151,14 @@ module _ {ns : List ℕ} {n : ℕ} (all : Numbers ns n) (f : ℕ → ℕ) where
   written l size e =
       ext-getD 0 l (map f ns) (size ∙ sym (length-map ns f ∙ all .size)) (λ i h. e i (omega arith) ∙ sym (at-place i (omega arith)))
 
--- One more product of a sum.
+-- A sum of products from place i on is the product at i plus the sum from the next place on.
 pub dot-next :
     (xs ws : List ℕ) (i : ℕ) → i < length xs → i < length ws
     → dot (drop i xs) (drop i ws) ≡ getD xs i 0 * getD ws i 0 + dot (drop (suc i) xs) (drop (suc i) ws)
 unfolding dot
 dot-next xs ws i hx hw = rw (drop-cons xs i 0 hx, drop-cons ws i 0 hw)
 
+-- The counts from place i on pass if the count at i passes and the counts from the next place on do.
 pub within-next :
     (is : List Interval) (ns : List ℕ) (d : Interval) (i : ℕ) → i < length is → i < length ns
     → allWithin (drop i is) (drop i ns) ≡ (within (getD is i d) (getD ns i 0) && allWithin (drop (suc i) is) (drop (suc i) ns))

@@ -1,4 +1,5 @@
--- How a half-byte carries the open run on: at each of the 32 pairs of a bit and a half-byte the runs are computed. Assumes nothing.
+-- The code's tables are right: at each of the 32 pairs of a bit and a half-byte they are compared with the runs, by computation. `shape` is what the
+-- loop needs: the runs of a half-byte and the bits after it, for an open run of any length. Assumes nothing.
 use mathlib.Core.Path.{_≡_, refl}
 use mathlib.Core.Bool.{true, cond}
 use mathlib.Core.List.{List, [], _∷_, _++_}
@@ -10,7 +11,7 @@ use Rattle.powerup.specs.Counts.{Run, run, runsFrom, longest}
 use Rattle.powerup.specs.Steps.{pair, leads, lasts, insides, halfBits, innerRuns, butLast}
 use Rattle.powerup.proofs.Lists.{Each, each}
 
--- k more than n, for a numeral k
+-- k more than n; for a numeral k it computes to successors of n, as `runsFrom` does
 abbrev more : ℕ → ℕ → ℕ
 more zero n = n
 more (suc k) n = suc (more k n)
@@ -19,7 +20,7 @@ more-is : (k n : ℕ) → more k n ≡ n + k
 more-is zero n = omega arith
 more-is (suc k) n = omega (arith, more-is k n)
 
--- the runs of a pair's half-byte and of what follows, after n bits equal to the pair's
+-- what the tables say of the runs of n bits, then a pair's half-byte, then `rest`; the n bits equal the pair's bit
 abbrev shaped : (ℕ → ℕ → ℕ) → ℕ → ℕ → List ℕ → List Run
 shaped plus p n rest =
     cond (eqb (getD leads p 0) 4) (runsFrom (p % 16 % 2) (plus 4 n) rest)
@@ -36,12 +37,12 @@ pub inside : (p : ℕ) → p < 32 → longest (innerRuns p) ≡ getD insides p 0
 unfolding runsFrom innerRuns butLast longest
 inside = each (λ p. longest (innerRuns p) ≡ getD insides p 0) 32 (omega arith)
 
--- A run that goes on through a half-byte leaves no room for another.
+-- If the open run goes on through the half-byte, no run lies inside it.
 pub no-inner : (p : ℕ) → p < 32 → eqb (getD leads p 0) 4 ≡ true → length (innerRuns p) ≡ 0
 unfolding runsFrom innerRuns butLast
 no-inner p h t = rw t at (each (λ p. cond (eqb (getD leads p 0) 4) (length (innerRuns p)) 0 ≡ 0) 32 (omega arith) p h)
 
--- The bits that carry the open run on and the longest run after them lie in the half-byte.
+-- The table entries are small enough for their casts and sums.
 pub low : (p : ℕ) → p < 32 → getD leads p 0 + getD insides p 0 ≤ 4
 low = each (λ p. getD leads p 0 + getD insides p 0 ≤ 4) 32 (omega arith)
 
@@ -49,7 +50,7 @@ pub ends : (v : ℕ) → v < 16 → getD lasts v 0 ≤ 4
 ends = each (λ v. getD lasts v 0 ≤ 4) 16 (omega arith)
 
 module _ (b v : ℕ) (hb : b < 2) (hv : v < 16) where
-  -- what a half-byte does to a run of n bits b
+  -- An open run of n bits b meets the half-byte v: it goes on, or it ends and the half-byte's last run is open.
   pub shape :
       (n : ℕ) (rest : List ℕ)
       → runsFrom b n (halfBits v ++ rest)

@@ -1,4 +1,5 @@
--- From a tally to the counts: what depends on the half-bytes alone is a sum over the pairs, each as often as it occurs. Assumes nothing.
+-- From a tally to the counts (`counts-right`). What depends on single half-bytes is a sum over the pairs: how often a pair occurs times its weight
+-- (`weigh`). Also the bounds that the sums need. Assumes nothing.
 use mathlib.Core.Path.{_≡_, refl, ap, sym, _∙_}
 use mathlib.Core.Bool.{Bool, true, cond, _&&_}
 use mathlib.Core.List.{List, [], _∷_, _++_, map}
@@ -15,7 +16,7 @@ use Rattle.powerup.specs.Steps.{Few, Light, Small, Room, Tallied, pair, 
 use Rattle.powerup.proofs.Lists.{either, both, Each, each, many-most, Numbers, numbers-16, numbers-32, at-place, written}
 use Rattle.powerup.proofs.Counting.{inner, half-of, byte-halves}
 
--- Whether no number of a list is above n.
+-- whether no number of a list is above n
 abbrev pub atMost : ℕ → List ℕ → Bool
 atMost n [] = true
 atMost n (x ∷ xs) = leb x n && atMost n xs
@@ -38,7 +39,7 @@ light-of s ws size h = record {
   light = few-of 10000 ws h;
 }
 
--- There are at most as many runs as bits, beside the run before them.
+-- There are at most as many runs as bits, and one more for the run before them.
 runs-most : (b n : ℕ) (bs : List ℕ) → length (runsFrom b n bs) ≤ suc (length bs)
 unfolding runsFrom
 runs-most b n [] = omega arith
@@ -57,7 +58,7 @@ inner-most b k p =
     let rs = runsFrom (p / 16) 0 (halfBits (p % 16)) in
     omega (arith, many-most b k (innerRuns p), but-last-most (drop 1 rs), length-drop 1 rs, runs-most (p / 16) 0 (halfBits (p % 16)))
 
--- The weights of the runs inside a half-byte are small, so that their sum fits.
+-- The weights that count the runs inside a half-byte are small, so their sum fits.
 pub light-inside : {t : Tally} {ws : List ℕ} (b k : ℕ) → Small t → ws ≡ insideAt b k → Light (t .pairs) ws
 unfolding insideAt
 light-inside b k s e =
@@ -69,7 +70,7 @@ light-inside b k s e =
       light = few-map (inner b k) 10000 (λ p. omega (arith, inner-most b k p)) thirtyTwo;
     })
 
--- So do the sums with the runs that ended.
+-- Such a sum and the runs that ended fit together.
 pub room :
     {t : Tally} (b x y z : ℕ) → Small t → b < 2 → x ≤ 3200000000 → y ≤ 3200000000 → z ≤ 3200000000 → Room (t .ended) (7 * b) x y z
 room b x y z s hb hx hy hz = record {
@@ -92,12 +93,12 @@ unfolding dot sumOfSquares
 dot-self [] = refl
 dot-self (c ∷ cs) = ap (λ (s : ℕ). c * c + s) (dot-self cs)
 
--- All numbers of a list are below n.
+-- all numbers of a list are below n
 abbrev pub Under : ℕ → List ℕ → Type 0
 Under n [] = Unit
 Under n (x ∷ xs) = (x < n) × Under n xs
 
--- Each number of a list weighed as often as it occurs.
+-- The sum of f over a list of numbers below n: how often each number occurs, times f of it, added up over the numbers below n (`weigh`).
 module _ (f : ℕ → ℕ) where
   weigh-none : (vs : List ℕ) → dot (map (λ p. occurrences p []) vs) (map f vs) ≡ 0
   unfolding dot occurrences
@@ -129,7 +130,7 @@ module _ (f : ℕ → ℕ) where
   total-zero [] u z = refl
   total-zero (p ∷ ps) u z = omega (arith, z p (u .0), total-zero ps (u .1) z)
 
--- The half-bytes of bytes, one byte after the other.
+-- The half-bytes of bytes are the two halves of each byte, in order.
 half-bytes-of : (b : ℕ) (bytes : List ℕ) → halfBytes (bits (b ∷ bytes)) ≡ b / 16 % 16 ∷ b % 16 ∷ halfBytes (bits bytes)
 unfolding bits
 half-bytes-of b bytes =
@@ -159,7 +160,7 @@ occurrences-append v [] ys = omega arith
 occurrences-append v (x ∷ xs) ys =
     ⊎-elim (λ t. rw t (omega (arith, occurrences-append v xs ys))) (λ f. rw f (occurrences-append v xs ys)) (either (eqb x v))
 
--- the ones of a pair's half-byte
+-- how many ones a pair's half-byte has
 abbrev onesOf : ℕ → ℕ
 onesOf p = occurrences 1 (halfBits (p % 16))
 
@@ -190,7 +191,7 @@ ones-total x (b ∷ bytes) =
       ones-total (b % 16 % 2) bytes,
     ))
 
--- A half-byte comes after a zero or after a one.
+-- A half-byte occurs as often as its two pairs together: after a zero and after a one.
 hit : ℕ → ℕ → ℕ
 hit x v = cond (eqb x v) 1 0
 
@@ -242,7 +243,7 @@ none-longer b k (r ∷ rs) h most =
     ⊎-elim (λ t. absurd (omega (arith, eqb-true (min (r .len) 6) k (both (eqb (r .bit) b) (eqb (min (r .len) 6) k) t .1))))
     (λ f. rw f (none-longer b k rs (omega arith) most)) (either (isOf b k r))
 
--- What a tally of a block's bits comes to.
+-- The counts that follow from the tally of a block are the block's counts.
 module _ (bytes : List ℕ) (t : Tally) (done : Tallied (bits bytes) t) where
   pairs-below : Under 32 (pairsOf (bits bytes))
   pairs-below = pairs-under 0 (omega arith) (halfBytes (bits bytes)) (halves-under bytes)

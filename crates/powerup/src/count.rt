@@ -1,6 +1,8 @@
-// The counts of a block, a half-byte at a time. How often each half-byte comes after each bit is counted: ones, poker counts and the runs that lie
-// inside a half-byte follow from these 32 numbers at the end. In the loop only the run that comes into the half-byte is measured, with one
-// branch, which random bits take once in sixteen.
+// Counts a block, a half-byte at a time.
+//
+// A half-byte and the bit before it make one of 32 pairs. The loop counts how often each pair occurs. The ones, the poker counts and the runs inside a
+// half-byte follow from these 32 numbers at the end. So the loop measures only the run that comes into a half-byte. It has one branch, which
+// random bits take once in sixteen.
 use crate::Counts;
 use crate::RunCounts;
 use crate::tables::INSIDES;
@@ -37,7 +39,7 @@ ghost use Rattle.powerup.specs.Steps.{
   Small,
 };
 
-// The run that the last bit belongs to, and the longest of those before it.
+// The run that the last bit read belongs to. `longest` is the length of the longest run before it.
 pub struct LastRun {
     pub bit: u32,
     pub length: u32,
@@ -46,14 +48,14 @@ pub struct LastRun {
 
 pub struct Step {
     pub next: LastRun,
-    // the length of the run that ended, or 0
+    // the length of the run that ended, or 0 if none did
     pub ended: u32,
 }
 
 pub struct Tally {
-    // how often each half-byte came after each bit
+    // how often each pair occurred
     pub pairs: [u32; 32],
-    // the runs that ended, by `place`, without those that begin and end inside one half-byte
+    // how many runs ended, by `place`; runs inside one half-byte are left out
     pub ended: [u32; 14],
     pub longest: u32,
 }
@@ -66,7 +68,7 @@ pub(crate) fn count(bytes: &[u8]) -> Counts
     counts_in(read_all(bytes))
 }
 
-// What a tally comes to.
+// The counts that follow from a tally.
 fn counts_in(t: Tally) -> Counts
     requires { ⌜ Small t ⌝ }
     ensures { λ r. ⌜ r ≡ countsIn t ⌝ }
@@ -85,8 +87,8 @@ fn counts_in(t: Tally) -> Counts
     }
 }
 
-// The runs of one bit, by length: those that ended in the loop and those inside a half-byte. Weights of the pairs count the second kind, for the
-// lengths 1, 2 and 3. None is longer.
+// The runs of one bit, by length: those that ended in the loop and those inside a half-byte. The second kind is at most 3 long. `singles`, `doubles`
+// and `triples` say for each pair how many runs of length 1, 2 and 3 lie inside its half-byte.
 fn runs_of(
     t: Tally,
     bit: usize,
@@ -105,7 +107,7 @@ fn runs_of(
     by_length(ended, 7 * bit, x, y, z)
 }
 
-// Reads every half-byte; then the last run has ended too.
+// Reads every half-byte, then counts the last run.
 fn read_all(bytes: &[u8]) -> Tally
     requires { ⌜ length (now bytes) ≡ 2500 ⌝ }
     ensures { λ r. ⌜ Tallied (bits (now (bytes .entry))) r ⌝ }
@@ -133,14 +135,14 @@ fn read_all(bytes: &[u8]) -> Tally
     }
 }
 
-// Separate because a cast of an element would have to be proved to fit.
+// Separate because the checker asks for a proof that an element fits when it is cast, and for none when a parameter is.
 fn wide(x: u8) -> u32
     ensures { λ r. ⌜ r ≡ x ⌝ }
 {
     x as u32
 }
 
-// Four more bits. Where no run ended, a run of no bits is counted, at a place that nobody reads.
+// Reads four more bits. If no run ended, a run of length 0 is counted, at a place that is never read.
 fn with_half(run: LastRun, half: u32, pairs: &mut [u32; 32], ended: &mut [u32; 14]) -> LastRun
     requires { ⌜ Ready run half (now pairs) (now ended) ⌝ }
     ensures { λ r. ⌜ r ≡ stepped run half .next ⌝ }
@@ -155,7 +157,7 @@ fn with_half(run: LastRun, half: u32, pairs: &mut [u32; 32], ended: &mut [u32; 1
     step.next
 }
 
-// The last run after four more bits, and the run that they ended.
+// The last run after four more bits, and the run that they ended. `index` is the pair's.
 fn after(run: LastRun, half: u32, index: usize) -> Step
     requires { ⌜ (run .bit < 2) × (half < 16) × (run .length ≤ 100000) × (index ≡ pair (run .bit) half) ⌝ }
     ensures { λ r. ⌜ r ≡ stepped run half ⌝ }
@@ -189,7 +191,7 @@ fn larger(a: u32, b: u32) -> u32
     if a < b { b } else { a }
 }
 
-// The place of a run among the ended ones, where a length of 6 stands for 6 or more.
+// The place of a run in `Tally::ended`. Runs of length 6 or more share a place.
 fn place(bit: u32, length: u32) -> usize
     requires { ⌜ bit < 2 ⌝ }
     ensures { λ r. ⌜ r ≡ place bit length ⌝ }
@@ -198,7 +200,7 @@ fn place(bit: u32, length: u32) -> usize
     (7 * bit + most) as usize
 }
 
-// The pairs, each with its weight.
+// The sum of the pairs' numbers, each times its weight.
 fn over_pairs(pairs: [u32; 32], weights: [u32; 32]) -> u32
     requires { ⌜ Light pairs weights ⌝ }
     ensures { λ r. ⌜ (r ≡ dot pairs weights) × (r ≤ 3200000000) ⌝ }
@@ -226,7 +228,7 @@ fn weighed(counts: &[u32], weights: &[u32]) -> u32
     sum
 }
 
-// How often each half-byte occurs, after a zero and after a one.
+// How often each half-byte occurs: after a zero and after a one together.
 fn poker_counts(pairs: [u32; 32]) -> [u32; 16]
     requires { ⌜ (length pairs ≡ 32) × Few pairs 5000 ⌝ }
     ensures { λ r. ⌜ r ≡ pokerOf pairs ⌝ }
@@ -240,7 +242,8 @@ fn poker_counts(pairs: [u32; 32]) -> [u32; 16]
     poker
 }
 
-// The runs of one bit, whose places follow `first`; x, y and z are those of length 1, 2 and 3 inside a half-byte.
+// The runs of one bit, by length. Those that ended in the loop stand at the six places after `first`. x, y and z are the runs of length 1, 2 and 3
+// inside a half-byte.
 fn by_length(ended: [u32; 14], first: usize, x: u32, y: u32, z: u32) -> [u32; 6]
     requires { ⌜ Room ended first x y z ⌝ }
     ensures { λ r. ⌜ r ≡ byLength ended first x y z ⌝ }

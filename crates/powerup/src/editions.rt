@@ -1,4 +1,4 @@
-// The numbers of the two editions.
+// The limits of the two editions.
 use crate::Interval;
 use crate::Limits;
 

@@ -1,4 +1,4 @@
-// A reply as a line, parted by tabs. A line has room for every field; what did not fit would be cut.
+// Writes a reply as a line of fields with a tab between them. The caller's buffer has room for every field; text that did not fit would be cut.
 use powerup::Answer;
 use powerup::Counts;
 use powerup::Reply;
@@ -16,7 +16,7 @@ pub(crate) fn put_reply(out: &mut [u8], number: u64, reply: Reply, counts: bool)
     put(out, end, b"\n")
 }
 
-// What follows the answer's number.
+// The fields after the answer's number.
 fn put_fields(out: &mut [u8], at: usize, reply: Reply, counts: bool) -> usize
     ensures { λ r. ⌜ r ≤ length (now (out .exit)) ⌝ }
 {
@@ -124,7 +124,7 @@ fn put_digits(out: &mut [u8], at: usize, n: u64) -> usize
     put(out, at, &text[..k])
 }
 
-// Puts the text at a place, and answers the place after it.
+// Writes the text at a place and returns the place after it.
 fn put(out: &mut [u8], at: usize, text: &[u8]) -> usize
     ensures { λ r. ⌜ r ≤ length (now (out .exit)) ⌝ }
 {

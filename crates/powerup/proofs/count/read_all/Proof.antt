@@ -1,5 +1,5 @@
--- `powerup::count::read_all` meets its contract. The loop's invariant: what is counted, with what the bytes that are left bring, is what all bytes
--- bring. Assumes nothing.
+-- `powerup::count::read_all` meets its contract. The loop's invariant: the counts so far plus the counts of the remaining bytes are the counts of all
+-- bytes (`Counting`). Assumes nothing.
 use native.Mathlib.Omega.{arith}
 use borrow.Author.Needs.{needs}
 use Prim.Native.Nat.{ℕ, suc, _+_, _*_, _/_, _%_, _≤_, _<_, _-_}
@@ -31,7 +31,7 @@ wide-requires c κs = search needs
 abbrev byte : tie.In-loop Inv-loop μ-loop → ℕ
 byte c = getD (c .before .before .before .args .bytes .now) (c .before .loop .i) 0
 
--- before its high half, and after it
+-- `Counting` before the byte's high half is read (`at-high`), and before its low half (`at-low`)
 at-high :
     (c : tie.In-loop Inv-loop μ-loop) → byte c < 256
     → Counting (bits (c .before .before .before .args .bytes .now))
