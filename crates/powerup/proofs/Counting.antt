@@ -16,7 +16,7 @@ use Rattle.powerup.specs.declared.count.LastRun.{LastRun}
 use Rattle.powerup.specs.Bits.{byteBits, bits}
 use Rattle.powerup.specs.Counts.{run, occurrences, halfBytes, runsFrom, runs, isOf, howMany, longest}
 use Rattle.powerup.specs.Steps.{Few, raised, place, pair, leads, lasts, insides, stepped, halfBits, pairsFrom, pairsOf, innerRuns, total, Tallied, Ready}
-use Rattle.powerup.proofs.Lists.{either, Each, each, raised-length, raised-other, raised-few, many-cons, many-append, many-most, ended-raised, met-raised, longest-three, numbers-32, written}
+use Rattle.powerup.proofs.Lists.{either, each, raised-length, raised-other, raised-few, many-cons, many-append, many-most, ended-raised, met-raised, longest-three, numbers-32, written}
 use Rattle.powerup.proofs.Shapes.{inside, no-inner, ends, shape}
 
 -- the number of runs of one kind inside a pair's half-byte

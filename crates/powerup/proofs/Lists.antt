@@ -5,6 +5,7 @@ use mathlib.Core.List.{List, [], _∷_, _++_, map}
 use mathlib.Core.Logic.{_⊎_, inl, inr, ⊎-elim}
 use Prim.Native.Nat.{ℕ, zero, suc, _+_, _*_, _≤_, _<_, min, max}
 use native.Mathlib.Omega.{arith}
+use native.Mathlib.Nat.{mul-le-mul}
 use native.Mathlib.Numerals.{add-one}
 use borrow.Author.Tests.{eqb-true, eqb-false, eq-eqb}
 use lib.Dec.{eqb}
@@ -13,7 +14,7 @@ use lib.Seq.{getD-set-same, getD-set-other, drop-cons, ext-getD}
 use Rattle.powerup.specs.declared.Interval.{Interval}
 use Rattle.powerup.specs.Verdicts.{within, allWithin}
 use Rattle.powerup.specs.Counts.{Run, run, sixteen, occurrences, isOf, howMany, longest}
-use Rattle.powerup.specs.Steps.{Few, raised, place, dot, thirtyTwo}
+use Rattle.powerup.specs.Steps.{Few, Light, raised, place, dot, thirtyTwo}
 
 pub either : (t : Bool) → (t ≡ true) ⊎ (t ≡ false)
 either true = inl refl
@@ -121,21 +122,21 @@ pub record Numbers (l : List ℕ) (n : ℕ) : Type 0 where
   pub at : (i : ℕ) → i < n → getD l i 0 ≡ i
   pub once : (v : ℕ) → v < n → occurrences v l ≡ 1
 
+numbers-of :
+    (l : List ℕ) (n : ℕ) → length l ≡ n → Each (λ i. getD l i 0 ≡ i) n → Each (λ v. occurrences v l ≡ 1) n → Numbers l n
+numbers-of l n size at once = record {
+  size = size;
+  at = each (λ i. getD l i 0 ≡ i) n at;
+  once = each (λ v. occurrences v l ≡ 1) n once;
+}
+
 pub numbers-16 : Numbers sixteen 16
 unfolding occurrences
-numbers-16 = record {
-  size = refl;
-  at = each (λ i. getD sixteen i 0 ≡ i) 16 (omega arith);
-  once = each (λ v. occurrences v sixteen ≡ 1) 16 (omega arith);
-}
+numbers-16 = numbers-of sixteen 16 refl (omega arith) (omega arith)
 
 pub numbers-32 : Numbers thirtyTwo 32
 unfolding occurrences
-numbers-32 = record {
-  size = refl;
-  at = each (λ i. getD thirtyTwo i 0 ≡ i) 32 (omega arith);
-  once = each (λ v. occurrences v thirtyTwo ≡ 1) 32 (omega arith);
-}
+numbers-32 = numbers-of thirtyTwo 32 refl (omega arith) (omega arith)
 
 mapped-at : (f : ℕ → ℕ) (l : List ℕ) (i : ℕ) → i < length l → getD (map f l) i 0 ≡ f (getD l i 0)
 mapped-at f [] i h = absurd (omega arith)
@@ -150,6 +151,10 @@ module _ {ns : List ℕ} {n : ℕ} (all : Numbers ns n) (f : ℕ → ℕ) where
   pub written : (l : List ℕ) → length l ≡ n → ((i : ℕ) → i < n → getD l i 0 ≡ f i) → l ≡ map f ns
   written l size e =
       ext-getD 0 l (map f ns) (size ∙ sym (length-map ns f ∙ all .size)) (λ i h. e i (omega arith) ∙ sym (at-place i (omega arith)))
+
+-- A number times its weight is at most 100,000,000.
+pub product-few : {xs ws : List ℕ} → Light xs ws → (i : ℕ) → getD xs i 0 * getD ws i 0 ≤ 100000000
+product-few l i = omega (arith, mul-le-mul (l .few i) (l .light i))
 
 -- A sum of products from place i on is the product at i plus the sum from the next place on.
 pub dot-next :

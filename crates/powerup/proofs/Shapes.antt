@@ -1,8 +1,8 @@
 -- The code's tables are right: at each of the 32 pairs of a bit and a half-byte they are compared with the runs, by computation. `shape` is what the
 -- loop needs: the runs of a half-byte and the bits after it, for an open run of any length. Assumes nothing.
-use mathlib.Core.Path.{_≡_, refl}
+use mathlib.Core.Path.{_≡_}
 use mathlib.Core.Bool.{true, cond}
-use mathlib.Core.List.{List, [], _∷_, _++_}
+use mathlib.Core.List.{List, _∷_, _++_}
 use Prim.Native.Nat.{ℕ, zero, suc, _+_, _/_, _%_, _≤_, _<_}
 use native.Mathlib.Omega.{arith}
 use lib.Dec.{eqb}

@@ -1,43 +1,51 @@
 -- From a tally to the counts (`counts-right`). What depends on single half-bytes is a sum over the pairs: how often a pair occurs times its weight
 -- (`weigh`). Also the bounds that the sums need. Assumes nothing.
 use mathlib.Core.Path.{_≡_, refl, ap, sym, _∙_}
-use mathlib.Core.Bool.{Bool, true, cond, _&&_}
+use mathlib.Core.Bool.{cond}
 use mathlib.Core.List.{List, [], _∷_, _++_, map}
 use mathlib.Core.Logic.{⊎-elim}
 use Prim.Native.Nat.{ℕ, zero, suc, _+_, _*_, _/_, _%_, _≤_, _<_, min}
 use native.Mathlib.Omega.{arith}
-use borrow.Author.Tests.{leb-true, eqb-true, eqb-false, eq-eqb, ne-eqb}
-use lib.Dec.{eqb, leb}
+use borrow.Author.Tests.{eqb-true, eqb-false, eq-eqb, ne-eqb}
+use lib.Dec.{eqb}
 use lib.ListN.{length, getD, drop, length-drop}
 use Rattle.powerup.specs.declared.count.Tally.{Tally}
 use Rattle.powerup.specs.Bits.{bits}
 use Rattle.powerup.specs.Counts.{Run, sixteen, sizes, occurrences, halfBytes, pokerCounts, sumOfSquares, runsFrom, runs, isOf, howMany, longest, runCounts, countsOf}
 use Rattle.powerup.specs.Steps.{Few, Light, Small, Room, Tallied, pair, place, halfBits, pairsFrom, pairsOf, innerRuns, butLast, total, thirtyTwo, dot, pokerOf, onesAt, insideAt, runsIn, countsIn}
-use Rattle.powerup.proofs.Lists.{either, both, Each, each, many-most, Numbers, numbers-16, numbers-32, at-place, written}
+use Rattle.powerup.proofs.Lists.{either, both, each, many-most, Numbers, numbers-16, numbers-32, at-place, written}
 use Rattle.powerup.proofs.Counting.{inner, half-of, byte-halves}
-
--- whether no number of a list is above n
-abbrev pub atMost : ℕ → List ℕ → Bool
-atMost n [] = true
-atMost n (x ∷ xs) = leb x n && atMost n xs
-
-pub few-of : (n : ℕ) (l : List ℕ) → atMost n l ≡ true → Few l n
-few-of n [] t i = omega arith
-few-of n (x ∷ xs) t zero = leb-true x n (both (leb x n) (atMost n xs) t .0)
-few-of n (x ∷ xs) t (suc i) = few-of n xs (both (leb x n) (atMost n xs) t .1) i
 
 few-map : (f : ℕ → ℕ) (n : ℕ) → ((v : ℕ) → f v ≤ n) → (l : List ℕ) → Few (map f l) n
 few-map f n h [] i = omega arith
 few-map f n h (x ∷ xs) zero = h x
 few-map f n h (x ∷ xs) (suc i) = few-map f n h xs i
 
-pub light-of : {t : Tally} → Small t → (ws : List ℕ) → length ws ≡ 32 → atMost 10000 ws ≡ true → Light (t .pairs) ws
-light-of s ws size h = record {
-  same = s .size ∙ sym size;
-  most = omega (arith, s .size);
-  few = λ i. omega (arith, s .pairs i);
-  light = few-of 10000 ws h;
-}
+-- If f is small, the pairs weighed by f have a sum that fits.
+light-map : {t : Tally} {ws : List ℕ} → Small t → (f : ℕ → ℕ) → ((p : ℕ) → f p ≤ 10000) → ws ≡ map f thirtyTwo → Light (t .pairs) ws
+light-map s f small e =
+    rw e
+    (record {
+      same = s .size;
+      most = omega (arith, s .size);
+      few = λ i. omega (arith, s .pairs i);
+      light = few-map f 10000 small thirtyTwo;
+    })
+
+-- how many ones a pair's half-byte has
+abbrev onesOf : ℕ → ℕ
+onesOf p = occurrences 1 (halfBits (p % 16))
+
+occurrences-most : (v : ℕ) (xs : List ℕ) → occurrences v xs ≤ length xs
+unfolding occurrences
+occurrences-most v [] = omega arith
+occurrences-most v (x ∷ xs) =
+    ⊎-elim (λ t. rw t (omega (arith, occurrences-most v xs))) (λ f. rw f (omega (arith, occurrences-most v xs))) (either (eqb x v))
+
+-- The weights that count the ones are small.
+pub light-ones : {t : Tally} {ws : List ℕ} → Small t → ws ≡ onesAt → Light (t .pairs) ws
+unfolding onesAt
+light-ones s e = light-map s onesOf (λ p. omega (arith, occurrences-most 1 (halfBits (p % 16)))) e
 
 -- There are at most as many runs as bits, and one more for the run before them.
 runs-most : (b n : ℕ) (bs : List ℕ) → length (runsFrom b n bs) ≤ suc (length bs)
@@ -58,17 +66,10 @@ inner-most b k p =
     let rs = runsFrom (p / 16) 0 (halfBits (p % 16)) in
     omega (arith, many-most b k (innerRuns p), but-last-most (drop 1 rs), length-drop 1 rs, runs-most (p / 16) 0 (halfBits (p % 16)))
 
--- The weights that count the runs inside a half-byte are small, so their sum fits.
+-- The weights that count the runs inside a half-byte are small.
 pub light-inside : {t : Tally} {ws : List ℕ} (b k : ℕ) → Small t → ws ≡ insideAt b k → Light (t .pairs) ws
 unfolding insideAt
-light-inside b k s e =
-    rw e
-    (record {
-      same = s .size;
-      most = omega (arith, s .size);
-      few = λ i. omega (arith, s .pairs i);
-      light = few-map (inner b k) 10000 (λ p. omega (arith, inner-most b k p)) thirtyTwo;
-    })
+light-inside b k s e = light-map s (inner b k) (λ p. omega (arith, inner-most b k p)) e
 
 -- Such a sum and the runs that ended fit together.
 pub room :
@@ -159,10 +160,6 @@ unfolding occurrences
 occurrences-append v [] ys = omega arith
 occurrences-append v (x ∷ xs) ys =
     ⊎-elim (λ t. rw t (omega (arith, occurrences-append v xs ys))) (λ f. rw f (occurrences-append v xs ys)) (either (eqb x v))
-
--- how many ones a pair's half-byte has
-abbrev onesOf : ℕ → ℕ
-onesOf p = occurrences 1 (halfBits (p % 16))
 
 ones-of-byte : (b : ℕ) (bytes : List ℕ) → occurrences 1 (bits (b ∷ bytes)) ≡ occurrences 1 (halfBits (b / 16 % 16)) + (occurrences 1 (halfBits (b % 16)) + occurrences 1 (bits bytes))
 unfolding bits

@@ -4,7 +4,7 @@ use borrow.Author.Needs.{needs}
 use mathlib.Core.Path.{refl}
 use Rattle.powerup.specs.Counts.{occurrences, runsFrom, isOf, howMany}
 use Rattle.powerup.specs.Steps.{butLast, innerRuns, onesAt, insideAt, countsIn}
-use Rattle.powerup.proofs.Weighing.{light-of, poker-few, poker-size}
+use Rattle.powerup.proofs.Weighing.{light-ones, poker-few, poker-size}
 use Rattle.powerup.proofs.count.counts_in.Statement.{statement}
 use Rattle.powerup.proofs.count.counts_in.Tie as tie
 
@@ -12,7 +12,8 @@ poker-counts-requires : tie.Need-poker-counts-requires
 poker-counts-requires c κs = search needs
 
 over-pairs-requires : tie.Need-over-pairs-requires
-over-pairs-requires c κs = light-of (c .before .before .pre) _ refl refl
+unfolding occurrences onesAt
+over-pairs-requires c κs = light-ones (c .before .before .pre) refl
 
 squares-requires : tie.Need-squares-requires
 squares-requires c κs = rw (c .before .poker-counts .ensures) (poker-size _, poker-few _ (c .before .before .before .pre .pairs))

@@ -1,6 +1,5 @@
 -- `powerup::count::runs_of` meets its contract. Assumes nothing.
 use borrow.Author.Needs.{needs}
-use mathlib.Core.Path.{_∙_}
 use Rattle.powerup.specs.Steps.{runsIn}
 use Rattle.powerup.proofs.Weighing.{light-inside, room}
 use Rattle.powerup.proofs.count.runs_of.Statement.{statement}
