@@ -127,7 +127,7 @@ fn read_all(bytes: &[u8]) -> Tally
         i += 1;
     }
     let at = place(run.bit, run.length);
-    ended[at] += 1;
+    raise(&mut ended, at);
     Tally {
         pairs,
         ended,
@@ -150,11 +150,18 @@ fn with_half(run: LastRun, half: u32, pairs: &mut [u32; 32], ended: &mut [u32; 1
     ensures { λ r. ⌜ now (ended .exit) ≡ raised (now (ended .entry)) (place (run .bit) (stepped run half .ended)) ⌝ }
 {
     let index = (16 * run.bit + half) as usize;
-    pairs[index] += 1;
+    raise(pairs, index);
     let step = after(run, half, index);
-    let at = place(run.bit, step.ended);
-    ended[at] += 1;
+    raise(ended, place(run.bit, step.ended));
     step.next
+}
+
+// Raises the number at a place by one.
+fn raise(counts: &mut [u32], at: usize)
+    requires { ⌜ (at < length (now counts)) × Few (now counts) 100000 ⌝ }
+    ensures { λ r. ⌜ now (counts .exit) ≡ raised (now (counts .entry)) at ⌝ }
+{
+    counts[at] += 1;
 }
 
 // The last run after four more bits, and the run that they ended. `index` is the pair's.
