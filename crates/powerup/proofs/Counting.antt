@@ -1,5 +1,5 @@
--- What has been counted after some half-bytes, and that one more keeps it so. `all` are the bits of the block, `rest` those that are still to be read.
--- Assumes nothing.
+-- The loop's invariant, `Counting`: it holds at the start (`none-read`), one more half-byte keeps it (`step`), and at the end it gives the tally
+-- (`all-read`). `all` are the bits of the block, `rest` the bits not yet read. Assumes nothing.
 use mathlib.Core.Path.{_≡_, refl, ap, _∙_}
 use mathlib.Core.Bool.{Bool, true, false, _&&_}
 use mathlib.Core.List.{List, [], _∷_, _++_}
@@ -16,10 +16,10 @@ use Rattle.powerup.specs.declared.count.LastRun.{LastRun}
 use Rattle.powerup.specs.Bits.{byteBits, bits}
 use Rattle.powerup.specs.Counts.{run, occurrences, halfBytes, runsFrom, runs, isOf, howMany, longest}
 use Rattle.powerup.specs.Steps.{Few, raised, place, pair, leads, lasts, insides, stepped, halfBits, pairsFrom, pairsOf, innerRuns, total, Tallied, Ready}
-use Rattle.powerup.proofs.Lists.{either, Each, each, raised-length, raised-other, raised-few, many-cons, many-append, ended-raised, met-raised, longest-three, written-32}
+use Rattle.powerup.proofs.Lists.{either, each, raised-length, raised-other, raised-few, many-cons, many-append, many-most, ended-raised, met-raised, longest-three, numbers-32, written}
 use Rattle.powerup.proofs.Shapes.{inside, no-inner, ends, shape}
 
--- the runs of one kind that lie inside a pair's half-byte
+-- the number of runs of one kind inside a pair's half-byte
 abbrev pub inner : ℕ → ℕ → ℕ → ℕ
 inner b k p = howMany b k (innerRuns p)
 
@@ -27,11 +27,11 @@ pub record Counting (all rest : List ℕ) (n : ℕ) (pairs ended : List ℕ) (o 
   pub bit : o .bit < 2
   pub pairs-size : length pairs ≡ 32
   pub ended-size : length ended ≡ 14
-  -- after n half-bytes no number has grown past these
+  -- bounds after n half-bytes
   pub short : o .length ≤ 4 * n
   pub few-pairs : Few pairs n
   pub few-ended : Few ended n
-  -- what is counted, with what the rest brings, is what all bits bring
+  -- the counts so far plus the counts of `rest` are the counts of `all`
   pub paired : (p : ℕ) → getD pairs p 0 + occurrences p (pairsFrom (o .bit) (halfBytes rest)) ≡ occurrences p (pairsOf all)
   pub counted :
       (b k : ℕ) → b < 2 → 0 < k → k ≤ 6
@@ -39,16 +39,13 @@ pub record Counting (all rest : List ℕ) (n : ℕ) (pairs ended : List ℕ) (o 
       ≡ howMany b k (runsFrom 0 0 all) + total (inner b k) (pairsFrom (o .bit) (halfBytes rest))
   pub long : max (o .longest) (longest (runsFrom (o .bit) (o .length) rest)) ≡ longest (runsFrom 0 0 all)
 
-Whole : ℕ → Type 0
-Whole v = 8 * (v / 8 % 2) + 4 * (v / 4 % 2) + 2 * (v / 2 % 2) + v % 2 ≡ v
-
-all-whole : Each Whole 16
-unfolding Whole
-all-whole = ((((((((((((((((tt, refl), refl), refl), refl), refl), refl), refl), refl), refl), refl), refl), refl), refl), refl), refl), refl)
+-- A half-byte is the number that its four bits spell.
+whole : (v : ℕ) → v < 16 → 8 * (v / 8 % 2) + 4 * (v / 4 % 2) + 2 * (v / 2 % 2) + v % 2 ≡ v
+whole = each (λ v. 8 * (v / 8 % 2) + 4 * (v / 4 % 2) + 2 * (v / 2 % 2) + v % 2 ≡ v) 16 (omega arith)
 
 pub half-of : (v : ℕ) (rest : List ℕ) → v < 16 → halfBytes (halfBits v ++ rest) ≡ v ∷ halfBytes rest
-unfolding halfBytes Whole
-half-of v rest h = rw (each Whole 16 all-whole v h)
+unfolding halfBytes
+half-of v rest h = rw (whole v h)
 
 module _ {all rest : List ℕ} {n : ℕ} {pairs ended : List ℕ} {o : LastRun} (v : ℕ) (hv : v < 16)
     (c : Counting all (halfBits v ++ rest) n pairs ended o) where
@@ -64,7 +61,7 @@ module _ {all rest : List ℕ} {n : ℕ} {pairs ended : List ℕ} {o : LastRun} 
   -- The run goes on through the half-byte.
   module _ (t : eqb lead 4 ≡ true) where
     goes-on : Counting all rest (suc n) (raised pairs (pair (o .bit) v)) (raised ended (place (o .bit) 0)) (record { bit = v % 2; length = o .length + 4; longest = o .longest })
-    unfolding pairsFrom total howMany
+    unfolding pairsFrom total
     goes-on =
         let h : pair (o .bit) v < length pairs = omega (arith, c .bit, c .pairs-size) in
         let h2 : place (o .bit) 0 < length ended = omega (arith, c .bit, c .ended-size) in
@@ -79,12 +76,17 @@ module _ {all rest : List ℕ} {n : ℕ} {pairs ended : List ℕ} {o : LastRun} 
           paired = still-paired;
           counted = λ b k hb some most.
               let q = rw (e, half-of v rest hv) at (c .counted b k hb some most) in
-              let z : inner b k (pair (o .bit) v) ≡ 0 = rw (no-inner (pair (o .bit) v) (omega (arith, c .bit)) t) in
-              omega (arith, q, raised-other ended (place (o .bit) 0) (place b k) (λ z. omega arith));
+              omega (
+                arith,
+                q,
+                many-most b k (innerRuns (pair (o .bit) v)),
+                no-inner (pair (o .bit) v) (omega (arith, c .bit)) t,
+                raised-other ended (place (o .bit) 0) (place b k) (λ z. omega arith),
+              );
           long = rw e at (c .long);
         }
 
-  -- The run ends in the half-byte, and the half-byte's last run takes its place.
+  -- The run ends in the half-byte. The half-byte's last run is then the open one.
   module _ (f : eqb lead 4 ≡ false) where
     ends-run :
         Counting all rest (suc n) (raised pairs (pair (o .bit) v)) (raised ended (place (o .bit) (o .length + lead)))
@@ -116,7 +118,7 @@ module _ {all rest : List ℕ} {n : ℕ} {pairs ended : List ℕ} {o : LastRun} 
               ∙ (rw e at (c .long));
         }
 
-  -- One more half-byte keeps the count right.
+  -- One more half-byte keeps the invariant.
   pub step :
       Counting all rest (suc n) (raised pairs (pair (o .bit) v)) (raised ended (place (o .bit) (stepped o v .ended))) (stepped o v .next)
   unfolding stepped
@@ -134,7 +136,7 @@ module _ {all rest : List ℕ} {n : ℕ} {pairs ended : List ℕ} {o : LastRun} 
     few-ended = λ i. omega (arith, c .few-ended i);
   }
 
--- The four lowest bits of a number are those of its rest by 16.
+-- The four lowest bits of a number are the bits of its remainder by 16.
 lowest : (x : ℕ) → halfBits x ≡ halfBits (x % 16)
 lowest x =
     let l8 : x / 8 ≡ x % 16 / 8 + x / 16 * 2 = omega arith in
@@ -156,7 +158,7 @@ byte-halves b rest =
     let h2 : b / 32 ≡ b / 16 / 2 = omega arith in
     cc (h8, h4, h2, lowest (b / 16), lowest b)
 
--- The bits that are left at a byte: those of its half-bytes, and the rest.
+-- The bits not read before byte i are the bits of its two half-bytes and of the bytes after it.
 pub bits-left :
     (bytes : List ℕ) (i : ℕ) → i < length bytes → getD bytes i 0 < 256
     → bits (drop i bytes) ≡ halfBits (getD bytes i 0 / 16) ++ halfBits (getD bytes i 0 % 16) ++ bits (drop (i + 1) bytes)
@@ -170,7 +172,7 @@ zeros-at zero i = refl
 zeros-at (suc n) zero = refl
 zeros-at (suc n) (suc i) = zeros-at n i
 
--- Nothing is counted yet.
+-- The invariant holds before the first byte.
 pub none-read : (all : List ℕ) → Counting all all 0 (replicate 32 0) (replicate 14 0) (record { bit = 0; length = 0; longest = 0 })
 none-read all = record {
   bit = omega arith;
@@ -192,7 +194,7 @@ no-kind : (b k : ℕ) → 0 < k → isOf b k (run 0 0) ≡ false
 unfolding isOf
 no-kind b k some = and-false (eqb 0 b) (eqb 0 k) (ne-eqb 0 k (λ e. omega arith))
 
--- A run of no bits before the first run is of no kind that is counted, and no longer than any.
+-- A run of length 0 before the first run changes no count and not the longest run.
 from-start : (b k : ℕ) (bs : List ℕ) → 0 < k → howMany b k (runsFrom 0 0 bs) ≡ howMany b k (runs bs)
 unfolding runsFrom runs howMany
 from-start b k [] some = rw (no-kind b k some)
@@ -204,7 +206,7 @@ unfolding runsFrom runs longest
 longest-from-start [] = refl
 longest-from-start (c ∷ cs) = ⊎-elim (λ t. rw (t, eqb-true c 0 t)) (λ f. rw f (omega arith)) (either (eqb c 0))
 
--- When no bit is left, the last run is counted too.
+-- When no bit is left and the last run is counted, the tally is right.
 module _ {all : List ℕ} {n : ℕ} {pairs ended : List ℕ} {o : LastRun} (c : Counting all [] n pairs ended o) (few : n ≤ 5000) where
   pub all-read :
       Tallied all
@@ -213,7 +215,7 @@ module _ {all : List ℕ} {n : ℕ} {pairs ended : List ℕ} {o : LastRun} (c : 
   all-read =
       let h : place (o .bit) (o .length) < length ended = omega (arith, c .bit, c .ended-size) in
       record {
-        pairs = written-32 (λ p. occurrences p (pairsOf all)) pairs (c .pairs-size) (λ p _. omega (arith, c .paired p));
+        pairs = written numbers-32 (λ p. occurrences p (pairsOf all)) pairs (c .pairs-size) (λ p _. omega (arith, c .paired p));
         ended = λ b k hb some most.
             omega (
               arith,

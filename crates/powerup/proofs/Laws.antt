@@ -1,5 +1,5 @@
 -- What the definitions mean: the runs are the bits, cut where they change; the counts add up; a verdict is true exactly inside its limits; the
--- refusals in their order. Assumes nothing.
+-- refusals come in their order. docs/PROMISES.md lists these laws. Assumes nothing.
 use mathlib.Core.Path.{_≡_, refl, ap, sym, _∙_}
 use mathlib.Core.Bool.{true}
 use mathlib.Core.List.{List, [], _∷_, _++_, map}
@@ -15,12 +15,13 @@ use Rattle.powerup.specs.declared.Counts.{Counts}
 use Rattle.powerup.specs.declared.Answer.the-variants.{WrongLength, WrongEdition}
 use Rattle.powerup.specs.Bits.{bits}
 use Rattle.powerup.specs.Counts.{Run, runsFrom, runs, occurrences, halfBytes, pokerCounts, sixteen}
+use Rattle.powerup.specs.Steps.{total, dot}
 use Rattle.powerup.specs.Verdicts.{between, within, verdictsOf}
 use Rattle.powerup.specs.Reply.{refused, judged, replyOf}
-use Rattle.powerup.proofs.Lists.{either, both, Each, each}
-use Rattle.powerup.proofs.Weighing.{Under, halves-under, halves-length}
+use Rattle.powerup.proofs.Lists.{either, both, numbers-16}
+use Rattle.powerup.proofs.Weighing.{Under, weigh, halves-under, halves-length}
 
--- the bits of runs
+-- the bits that runs spell
 abbrev pub spelled : List Run → List ℕ
 spelled [] = []
 spelled (r ∷ rs) = replicate (r .len) (r .bit) ++ spelled rs
@@ -36,13 +37,13 @@ from-spelled b n (c ∷ cs) =
     ⊎-elim (λ t. rw t (from-spelled b (suc n) cs ∙ one-more n b cs ∙ rw (eqb-true c b t)))
     (λ f. rw f (ap (λ (l : List ℕ). replicate n b ++ l) (from-spelled c 1 cs))) (either (eqb c b))
 
--- The runs are the bits, in order.
+-- The runs spell the bits, in order.
 pub runs-spell : (bs : List ℕ) → spelled (runs bs) ≡ bs
 unfolding runs
 runs-spell [] = refl
 runs-spell (b ∷ bs) = from-spelled b 1 bs
 
--- Runs after a bit b: none is empty, and each has another bit than what stands before it.
+-- Runs after a bit b: none is empty, and each has another bit than the run or bit before it.
 abbrev pub Differ : ℕ → List Run → Type 0
 Differ b [] = Unit
 Differ b (r ∷ rs) = (r .bit ≡ b → ⊥) × (0 < r .len) × Differ (r .bit) rs
@@ -65,7 +66,7 @@ from-maximal b n (c ∷ cs) h =
     ⊎-elim (λ t. rw t (from-maximal b (suc n) cs (omega arith)))
     (λ f. rw f (h, from-differ b c 1 cs (eqb-false c b f) (omega arith))) (either (eqb c b))
 
--- No run can be made longer, and none is empty.
+-- No run is empty, and none can be made longer: its neighbours have the other bit.
 pub runs-maximal : (bs : List ℕ) → Maximal (runs bs)
 unfolding runs
 runs-maximal [] = tt
@@ -111,36 +112,28 @@ abbrev pub added : List ℕ → ℕ
 added [] = 0
 added (x ∷ xs) = x + added xs
 
-added-one :
-    (x : ℕ) (xs vs : List ℕ)
-    → added (map (λ v. occurrences v (x ∷ xs)) vs) ≡ occurrences x vs + added (map (λ v. occurrences v xs) vs)
-unfolding occurrences
-added-one x xs [] = refl
-added-one x xs (v ∷ vs) =
-    ⊎-elim (λ t. let q : x ≡ v = eqb-true x v t in rw (t, eq-eqb v x (sym q)) (omega (arith, added-one x xs vs)))
-    (λ n.
-    let first : occurrences v (x ∷ xs) ≡ occurrences v xs = rw n in
-    let second : occurrences x (v ∷ vs) ≡ occurrences x vs = rw (ne-eqb v x (λ q. eqb-false x v n (sym q))) in
-    omega (arith, first, second, added-one x xs vs)) (either (eqb x v))
+-- A sum is a sum of products with the weight 1.
+added-weighed : (f : ℕ → ℕ) (vs : List ℕ) → added (map f vs) ≡ dot (map f vs) (map (λ _. 1) vs)
+unfolding dot
+added-weighed f [] = refl
+added-weighed f (v ∷ vs) = omega (arith, added-weighed f vs)
 
-Once : ℕ → Type 0
-Once v = occurrences v sixteen ≡ 1
+total-of-ones : (xs : List ℕ) → total (λ _. 1) xs ≡ length xs
+unfolding total
+total-of-ones [] = refl
+total-of-ones (x ∷ xs) = omega (arith, total-of-ones xs)
 
-all-once : Each Once 16
-unfolding Once occurrences
-all-once = ((((((((((((((((tt, refl), refl), refl), refl), refl), refl), refl), refl), refl), refl), refl), refl), refl), refl), refl), refl)
-
-added-all : (xs : List ℕ) → Under 16 xs → added (map (λ v. occurrences v xs) sixteen) ≡ length xs
-unfolding Once occurrences
-added-all [] u = refl
-added-all (x ∷ xs) u = omega (arith, added-one x xs sixteen, each Once 16 all-once x (u .0), added-all xs (u .1))
-
--- The poker counts add up to two for each byte: 5,000 in 2,500 bytes.
+-- The poker counts add up to 2 for each byte: 5,000 in 2,500 bytes.
 pub poker-adds-up : (bytes : List ℕ) → added (pokerCounts (bits bytes)) ≡ 2 * length bytes
 unfolding pokerCounts
-poker-adds-up bytes = added-all (halfBytes (bits bytes)) (halves-under bytes) ∙ halves-length bytes
+poker-adds-up bytes =
+    let hs = halfBytes (bits bytes) in
+    added-weighed (λ v. occurrences v hs) sixteen
+    ∙ weigh (λ _. 1) numbers-16 hs (halves-under bytes)
+    ∙ total-of-ones hs
+    ∙ halves-length bytes
 
--- The monobit interval leaves its ends out, and the others keep theirs.
+-- The ends of the monobit interval fail; the ends of the other intervals pass.
 pub between-exactly : (i : Interval) (n : ℕ) → (between i n ≡ true) ↔ ((i .low < n) × (n < i .high))
 unfolding between
 between-exactly i n = (
@@ -165,12 +158,13 @@ pub length-first : (bytes : List ℕ) (edition : ℕ) → (length bytes ≡ 2500
 unfolding replyOf
 length-first bytes edition h = rw (ne-eqb (length bytes) 2500 h)
 
+-- Then the edition is judged.
 pub edition-next :
     (bytes : List ℕ) (edition : ℕ) → length bytes ≡ 2500 → (edition ≡ 1 → ⊥) → (edition ≡ 2 → ⊥) → replyOf bytes edition ≡ refused WrongEdition
 unfolding replyOf
 edition-next bytes edition h first second = rw (eq-eqb (length bytes) 2500 h, ne-eqb edition 1 first, ne-eqb edition 2 second)
 
--- The editions count alike.
+-- Both editions have the same counts.
 pub same-counts : (bytes : List ℕ) → replyOf bytes 1 .counts ≡ replyOf bytes 2 .counts
 unfolding replyOf judged
 same-counts bytes = ⊎-elim (λ t. rw t) (λ f. rw f) (either (eqb (length bytes) 2500))

@@ -1,17 +1,17 @@
--- How a half-byte carries the open run on: at each of the 32 pairs of a bit and a half-byte the runs are computed. Assumes nothing.
-use mathlib.Core.Path.{_≡_, refl}
-use mathlib.Core.Bool.{true, cond, _&&_}
-use mathlib.Core.List.{List, [], _∷_, _++_}
+-- The code's tables are right: at each of the 32 pairs of a bit and a half-byte they are compared with the runs, by computation. `shape` is what the
+-- loop needs: the runs of a half-byte and the bits after it, for an open run of any length. Assumes nothing.
+use mathlib.Core.Path.{_≡_}
+use mathlib.Core.Bool.{true, cond}
+use mathlib.Core.List.{List, _∷_, _++_}
 use Prim.Native.Nat.{ℕ, zero, suc, _+_, _/_, _%_, _≤_, _<_}
 use native.Mathlib.Omega.{arith}
-use borrow.Author.Tests.{leb-true}
-use lib.Dec.{eqb, leb}
-use lib.ListN.{getD}
+use lib.Dec.{eqb}
+use lib.ListN.{length, getD}
 use Rattle.powerup.specs.Counts.{Run, run, runsFrom, longest}
 use Rattle.powerup.specs.Steps.{pair, leads, lasts, insides, halfBits, innerRuns, butLast}
-use Rattle.powerup.proofs.Lists.{both, Each, each}
+use Rattle.powerup.proofs.Lists.{Each, each}
 
--- k more than n, for a numeral k
+-- k more than n; for a numeral k it computes to successors of n, as `runsFrom` does
 abbrev more : ℕ → ℕ → ℕ
 more zero n = n
 more (suc k) n = suc (more k n)
@@ -20,7 +20,7 @@ more-is : (k n : ℕ) → more k n ≡ n + k
 more-is zero n = omega arith
 more-is (suc k) n = omega (arith, more-is k n)
 
--- the runs of a pair's half-byte and of what follows, after n bits equal to the pair's
+-- what the tables say of the runs of n bits, then a pair's half-byte, then `rest`; the n bits equal the pair's bit
 abbrev shaped : (ℕ → ℕ → ℕ) → ℕ → ℕ → List ℕ → List Run
 shaped plus p n rest =
     cond (eqb (getD leads p 0) 4) (runsFrom (p % 16 % 2) (plus 4 n) rest)
@@ -31,61 +31,26 @@ Shaped p = (n : ℕ) (rest : List ℕ) → runsFrom (p / 16) n (halfBits (p % 16
 
 all-shaped : Each Shaped 32
 unfolding runsFrom innerRuns butLast
-all-shaped =
-    ((((((((((((((((((((((((((((((((tt, λ n rest. refl), λ n rest. refl), λ n rest. refl), λ n rest. refl), λ n rest. refl), λ n rest. refl), λ n rest. refl), λ n rest. refl), λ n rest. refl), λ n rest. refl), λ n rest. refl), λ n rest. refl), λ n rest. refl), λ n rest. refl), λ n rest. refl), λ n rest. refl), λ n rest. refl), λ n rest. refl), λ n rest. refl), λ n rest. refl), λ n rest. refl), λ n rest. refl), λ n rest. refl), λ n rest. refl), λ n rest. refl), λ n rest. refl), λ n rest. refl), λ n rest. refl), λ n rest. refl), λ n rest. refl), λ n rest. refl), λ n rest. refl)
-
-Inside : ℕ → Type 0
-Inside p = longest (innerRuns p) ≡ getD insides p 0
-
-all-inside : Each Inside 32
-unfolding Inside runsFrom innerRuns butLast longest
-all-inside =
-    ((((((((((((((((((((((((((((((((tt, refl), refl), refl), refl), refl), refl), refl), refl), refl), refl), refl), refl), refl), refl), refl), refl), refl), refl), refl), refl), refl), refl), refl), refl), refl), refl), refl), refl), refl), refl), refl), refl)
+all-shaped = search depth 70
 
 pub inside : (p : ℕ) → p < 32 → longest (innerRuns p) ≡ getD insides p 0
-unfolding Inside
-inside = each Inside 32 all-inside
+unfolding runsFrom innerRuns butLast longest
+inside = each (λ p. longest (innerRuns p) ≡ getD insides p 0) 32 (omega arith)
 
-NoInner : ℕ → Type 0
-NoInner p = cond (eqb (getD leads p 0) 4) (innerRuns p) [] ≡ []
+-- If the open run goes on through the half-byte, no run lies inside it.
+pub no-inner : (p : ℕ) → p < 32 → eqb (getD leads p 0) 4 ≡ true → length (innerRuns p) ≡ 0
+unfolding runsFrom innerRuns butLast
+no-inner p h t = rw t at (each (λ p. cond (eqb (getD leads p 0) 4) (length (innerRuns p)) 0 ≡ 0) 32 (omega arith) p h)
 
-all-no-inner : Each NoInner 32
-unfolding NoInner runsFrom innerRuns butLast
-all-no-inner =
-    ((((((((((((((((((((((((((((((((tt, refl), refl), refl), refl), refl), refl), refl), refl), refl), refl), refl), refl), refl), refl), refl), refl), refl), refl), refl), refl), refl), refl), refl), refl), refl), refl), refl), refl), refl), refl), refl), refl)
-
--- A run that goes on through a half-byte leaves no room for another.
-pub no-inner : (p : ℕ) → p < 32 → eqb (getD leads p 0) 4 ≡ true → innerRuns p ≡ []
-unfolding NoInner
-no-inner p h t = rw t at (each NoInner 32 all-no-inner p h)
-
-Low : ℕ → Type 0
-Low p = leb (getD leads p 0) 4 && leb (getD insides p 0) 3 ≡ true
-
-all-low : Each Low 32
-unfolding Low
-all-low =
-    ((((((((((((((((((((((((((((((((tt, refl), refl), refl), refl), refl), refl), refl), refl), refl), refl), refl), refl), refl), refl), refl), refl), refl), refl), refl), refl), refl), refl), refl), refl), refl), refl), refl), refl), refl), refl), refl), refl)
-
-pub low : (p : ℕ) → p < 32 → (getD leads p 0 ≤ 4) × (getD insides p 0 ≤ 3)
-unfolding Low
-low p h =
-    let e = both (leb (getD leads p 0) 4) (leb (getD insides p 0) 3) (each Low 32 all-low p h) in
-    (leb-true (getD leads p 0) 4 (e .0), leb-true (getD insides p 0) 3 (e .1))
-
-Ends : ℕ → Type 0
-Ends v = getD lasts v 0 ≤ 4
-
-all-ends : Each Ends 16
-unfolding Ends
-all-ends = omega arith
+-- The table entries are small enough for their casts and sums.
+pub low : (p : ℕ) → p < 32 → getD leads p 0 + getD insides p 0 ≤ 4
+low = each (λ p. getD leads p 0 + getD insides p 0 ≤ 4) 32 (omega arith)
 
 pub ends : (v : ℕ) → v < 16 → getD lasts v 0 ≤ 4
-unfolding Ends
-ends = each Ends 16 all-ends
+ends = each (λ v. getD lasts v 0 ≤ 4) 16 (omega arith)
 
 module _ (b v : ℕ) (hb : b < 2) (hv : v < 16) where
-  -- what a half-byte does to a run of n bits b
+  -- An open run of n bits b meets the half-byte v: it goes on, or it ends and the half-byte's last run is open.
   pub shape :
       (n : ℕ) (rest : List ℕ)
       → runsFrom b n (halfBits v ++ rest)

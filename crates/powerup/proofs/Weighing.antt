@@ -1,41 +1,84 @@
--- From a tally to the counts: what depends on the half-bytes alone is a sum over the pairs, each as often as it occurs. Assumes nothing.
+-- From a tally to the counts (`counts-right`). What depends on single half-bytes is a sum over the pairs: how often a pair occurs times its weight
+-- (`weigh`). Also the bounds that the sums need. Assumes nothing.
 use mathlib.Core.Path.{_≡_, refl, ap, sym, _∙_}
-use mathlib.Core.Bool.{Bool, true, cond, _&&_}
+use mathlib.Core.Bool.{cond}
 use mathlib.Core.List.{List, [], _∷_, _++_, map}
 use mathlib.Core.Logic.{⊎-elim}
-use Prim.Native.Nat.{ℕ, zero, suc, _+_, _*_, _/_, _%_, _≤_, _<_}
+use Prim.Native.Nat.{ℕ, zero, suc, _+_, _*_, _/_, _%_, _≤_, _<_, min}
 use native.Mathlib.Omega.{arith}
-use borrow.Author.Tests.{leb-true, eqb-true, eqb-false, eq-eqb, ne-eqb}
-use lib.Dec.{eqb, leb}
-use lib.ListN.{length, getD}
+use borrow.Author.Tests.{eqb-true, eqb-false, eq-eqb, ne-eqb}
+use lib.Dec.{eqb}
+use lib.ListN.{length, getD, drop, length-drop}
 use Rattle.powerup.specs.declared.count.Tally.{Tally}
 use Rattle.powerup.specs.Bits.{bits}
-use Rattle.powerup.specs.Counts.{sixteen, sizes, occurrences, halfBytes, pokerCounts, sumOfSquares, runsFrom, runs, isOf, howMany, runCounts, countsOf}
-use Rattle.powerup.specs.Steps.{Few, Light, Small, Tallied, pair, place, halfBits, pairsFrom, pairsOf, innerRuns, butLast, total, thirtyTwo, dot, pokerOf, onesAt, insideAt, runsIn, countsIn}
-use Rattle.powerup.proofs.Lists.{either, both, Each, each, at-16, written-16, at-32}
+use Rattle.powerup.specs.Counts.{Run, sixteen, sizes, occurrences, halfBytes, pokerCounts, sumOfSquares, runsFrom, runs, isOf, howMany, longest, runCounts, countsOf}
+use Rattle.powerup.specs.Steps.{Few, Light, Small, Room, Tallied, pair, place, halfBits, pairsFrom, pairsOf, innerRuns, butLast, total, thirtyTwo, dot, pokerOf, onesAt, insideAt, runsIn, countsIn}
+use Rattle.powerup.proofs.Lists.{either, both, each, many-most, Numbers, numbers-16, numbers-32, at-place, written}
 use Rattle.powerup.proofs.Counting.{inner, half-of, byte-halves}
-
--- Whether no number of a list is above n.
-abbrev pub atMost : ℕ → List ℕ → Bool
-atMost n [] = true
-atMost n (x ∷ xs) = leb x n && atMost n xs
-
-pub few-of : (n : ℕ) (l : List ℕ) → atMost n l ≡ true → Few l n
-few-of n [] t i = omega arith
-few-of n (x ∷ xs) t zero = leb-true x n (both (leb x n) (atMost n xs) t .0)
-few-of n (x ∷ xs) t (suc i) = few-of n xs (both (leb x n) (atMost n xs) t .1) i
 
 few-map : (f : ℕ → ℕ) (n : ℕ) → ((v : ℕ) → f v ≤ n) → (l : List ℕ) → Few (map f l) n
 few-map f n h [] i = omega arith
 few-map f n h (x ∷ xs) zero = h x
 few-map f n h (x ∷ xs) (suc i) = few-map f n h xs i
 
-pub light-of : {t : Tally} → Small t → (ws : List ℕ) → length ws ≡ 32 → atMost 10000 ws ≡ true → Light (t .pairs) ws
-light-of s ws size h = record {
-  same = s .size ∙ sym size;
-  most = omega (arith, s .size);
-  few = λ i. omega (arith, s .pairs i);
-  light = few-of 10000 ws h;
+-- If f is small, the pairs weighed by f have a sum that fits.
+light-map : {t : Tally} {ws : List ℕ} → Small t → (f : ℕ → ℕ) → ((p : ℕ) → f p ≤ 10000) → ws ≡ map f thirtyTwo → Light (t .pairs) ws
+light-map s f small e =
+    rw e
+    (record {
+      same = s .size;
+      most = omega (arith, s .size);
+      few = λ i. omega (arith, s .pairs i);
+      light = few-map f 10000 small thirtyTwo;
+    })
+
+-- how many ones a pair's half-byte has
+abbrev onesOf : ℕ → ℕ
+onesOf p = occurrences 1 (halfBits (p % 16))
+
+occurrences-most : (v : ℕ) (xs : List ℕ) → occurrences v xs ≤ length xs
+unfolding occurrences
+occurrences-most v [] = omega arith
+occurrences-most v (x ∷ xs) =
+    ⊎-elim (λ t. rw t (omega (arith, occurrences-most v xs))) (λ f. rw f (omega (arith, occurrences-most v xs))) (either (eqb x v))
+
+-- The weights that count the ones are small.
+pub light-ones : {t : Tally} {ws : List ℕ} → Small t → ws ≡ onesAt → Light (t .pairs) ws
+unfolding onesAt
+light-ones s e = light-map s onesOf (λ p. omega (arith, occurrences-most 1 (halfBits (p % 16)))) e
+
+-- There are at most as many runs as bits, and one more for the run before them.
+runs-most : (b n : ℕ) (bs : List ℕ) → length (runsFrom b n bs) ≤ suc (length bs)
+unfolding runsFrom
+runs-most b n [] = omega arith
+runs-most b n (c ∷ cs) =
+    ⊎-elim (λ t. rw t (omega (arith, runs-most b (suc n) cs))) (λ f. rw f (omega (arith, runs-most c 1 cs))) (either (eqb c b))
+
+but-last-most : (rs : List Run) → length (butLast rs) ≤ length rs
+unfolding butLast
+but-last-most [] = omega arith
+but-last-most (r ∷ []) = omega arith
+but-last-most (r ∷ q ∷ rs) = omega (arith, but-last-most (q ∷ rs))
+
+inner-most : (b k p : ℕ) → inner b k p ≤ 5
+unfolding innerRuns
+inner-most b k p =
+    let rs = runsFrom (p / 16) 0 (halfBits (p % 16)) in
+    omega (arith, many-most b k (innerRuns p), but-last-most (drop 1 rs), length-drop 1 rs, runs-most (p / 16) 0 (halfBits (p % 16)))
+
+-- The weights that count the runs inside a half-byte are small.
+pub light-inside : {t : Tally} {ws : List ℕ} (b k : ℕ) → Small t → ws ≡ insideAt b k → Light (t .pairs) ws
+unfolding insideAt
+light-inside b k s e = light-map s (inner b k) (λ p. omega (arith, inner-most b k p)) e
+
+-- Such a sum and the runs that ended fit together.
+pub room :
+    {t : Tally} (b x y z : ℕ) → Small t → b < 2 → x ≤ 3200000000 → y ≤ 3200000000 → z ≤ 3200000000 → Room (t .ended) (7 * b) x y z
+room b x y z s hb hx hy hz = record {
+  places = omega arith;
+  one = omega (arith, s .ended (7 * b + 1));
+  two = omega (arith, s .ended (7 * b + 2));
+  three = omega (arith, s .ended (7 * b + 3));
 }
 
 pub poker-few : (pairs : List ℕ) → Few pairs 5000 → Few (pokerOf pairs) 10000
@@ -51,20 +94,12 @@ unfolding dot sumOfSquares
 dot-self [] = refl
 dot-self (c ∷ cs) = ap (λ (s : ℕ). c * c + s) (dot-self cs)
 
--- All numbers of a list are below n.
+-- all numbers of a list are below n
 abbrev pub Under : ℕ → List ℕ → Type 0
 Under n [] = Unit
 Under n (x ∷ xs) = (x < n) × Under n xs
 
-Once : ℕ → Type 0
-Once p = occurrences p thirtyTwo ≡ 1
-
-all-once : Each Once 32
-unfolding Once occurrences
-all-once =
-    ((((((((((((((((((((((((((((((((tt, refl), refl), refl), refl), refl), refl), refl), refl), refl), refl), refl), refl), refl), refl), refl), refl), refl), refl), refl), refl), refl), refl), refl), refl), refl), refl), refl), refl), refl), refl), refl), refl)
-
--- Each number of a list weighed as often as it occurs.
+-- The sum of f over a list of numbers below n: how often each number occurs, times f of it, added up over the numbers below n (`weigh`).
 module _ (f : ℕ → ℕ) where
   weigh-none : (vs : List ℕ) → dot (map (λ p. occurrences p []) vs) (map f vs) ≡ 0
   unfolding dot occurrences
@@ -83,18 +118,20 @@ module _ (f : ℕ → ℕ) where
       let second : occurrences x (v ∷ vs) ≡ occurrences x vs = rw (ne-eqb v x (λ q. eqb-false x v n (sym q))) in
       omega (arith, ap (λ (m : ℕ). m * f v) first, ap (λ (m : ℕ). m * f x) second, weigh-one x xs vs)) (either (eqb x v))
 
-  weigh : (ps : List ℕ) → Under 32 ps → dot (map (λ p. occurrences p ps) thirtyTwo) (map f thirtyTwo) ≡ total f ps
-  unfolding Once total
-  weigh [] u = weigh-none thirtyTwo
-  weigh (p ∷ ps) u =
-      omega (arith, weigh-one p ps thirtyTwo, ap (λ (n : ℕ). n * f p) (each Once 32 all-once p (u .0)), weigh ps (u .1))
+  pub weigh :
+      {ns : List ℕ} {n : ℕ} → Numbers ns n → (xs : List ℕ) → Under n xs
+      → dot (map (λ v. occurrences v xs) ns) (map f ns) ≡ total f xs
+  unfolding total
+  weigh {ns} all [] u = weigh-none ns
+  weigh {ns} all (x ∷ xs) u =
+      omega (arith, weigh-one x xs ns, ap (λ (n : ℕ). n * f x) (all .once x (u .0)), weigh all xs (u .1))
 
   total-zero : (ps : List ℕ) → Under 32 ps → ((p : ℕ) → p < 32 → f p ≡ 0) → total f ps ≡ 0
   unfolding total
   total-zero [] u z = refl
   total-zero (p ∷ ps) u z = omega (arith, z p (u .0), total-zero ps (u .1) z)
 
--- The half-bytes of bytes, one byte after the other.
+-- The half-bytes of bytes are the two halves of each byte, in order.
 half-bytes-of : (b : ℕ) (bytes : List ℕ) → halfBytes (bits (b ∷ bytes)) ≡ b / 16 % 16 ∷ b % 16 ∷ halfBytes (bits bytes)
 unfolding bits
 half-bytes-of b bytes =
@@ -124,10 +161,6 @@ occurrences-append v [] ys = omega arith
 occurrences-append v (x ∷ xs) ys =
     ⊎-elim (λ t. rw t (omega (arith, occurrences-append v xs ys))) (λ f. rw f (occurrences-append v xs ys)) (either (eqb x v))
 
--- the ones of a pair's half-byte
-abbrev onesOf : ℕ → ℕ
-onesOf p = occurrences 1 (halfBits (p % 16))
-
 ones-of-byte : (b : ℕ) (bytes : List ℕ) → occurrences 1 (bits (b ∷ bytes)) ≡ occurrences 1 (halfBits (b / 16 % 16)) + (occurrences 1 (halfBits (b % 16)) + occurrences 1 (bits bytes))
 unfolding bits
 ones-of-byte b bytes =
@@ -155,7 +188,7 @@ ones-total x (b ∷ bytes) =
       ones-total (b % 16 % 2) bytes,
     ))
 
--- A half-byte comes after a zero or after a one.
+-- A half-byte occurs as often as its two pairs together: after a zero and after a one.
 hit : ℕ → ℕ → ℕ
 hit x v = cond (eqb x v) 1 0
 
@@ -196,21 +229,24 @@ poker-total x hx (h ∷ vs) u v hv =
     )
 
 -- No run of four or more lies inside a half-byte.
-Short : ℕ → Type 0
-Short p = inner 0 4 p + inner 0 5 p + inner 0 6 p + (inner 1 4 p + inner 1 5 p + inner 1 6 p) ≡ 0
+short : (p : ℕ) → p < 32 → longest (innerRuns p) ≤ 3
+unfolding innerRuns butLast runsFrom longest
+short = each (λ p. longest (innerRuns p) ≤ 3) 32 (omega arith)
 
-all-short : Each Short 32
-unfolding Short innerRuns butLast runsFrom howMany isOf
-all-short =
-    ((((((((((((((((((((((((((((((((tt, refl), refl), refl), refl), refl), refl), refl), refl), refl), refl), refl), refl), refl), refl), refl), refl), refl), refl), refl), refl), refl), refl), refl), refl), refl), refl), refl), refl), refl), refl), refl), refl)
+none-longer : (b k : ℕ) (rs : List Run) → longest rs < k → k ≤ 6 → howMany b k rs ≡ 0
+unfolding howMany isOf longest
+none-longer b k [] h most = refl
+none-longer b k (r ∷ rs) h most =
+    ⊎-elim (λ t. absurd (omega (arith, eqb-true (min (r .len) 6) k (both (eqb (r .bit) b) (eqb (min (r .len) 6) k) t .1))))
+    (λ f. rw f (none-longer b k rs (omega arith) most)) (either (isOf b k r))
 
--- What a tally of a block's bits comes to.
+-- The counts that follow from the tally of a block are the block's counts.
 module _ (bytes : List ℕ) (t : Tally) (done : Tallied (bits bytes) t) where
   pairs-below : Under 32 (pairsOf (bits bytes))
   pairs-below = pairs-under 0 (omega arith) (halfBytes (bits bytes)) (halves-under bytes)
 
   weighed : (f : ℕ → ℕ) → dot (t .pairs) (map f thirtyTwo) ≡ total f (pairsOf (bits bytes))
-  weighed f = rw (done .pairs) (weigh f (pairsOf (bits bytes)) pairs-below)
+  weighed f = rw (done .pairs) (weigh f numbers-32 (pairsOf (bits bytes)) pairs-below)
 
   ones-right : dot (t .pairs) onesAt ≡ occurrences 1 (bits bytes)
   unfolding onesAt
@@ -220,39 +256,37 @@ module _ (bytes : List ℕ) (t : Tally) (done : Tallied (bits bytes) t) where
   unfolding pokerOf pokerCounts
   poker-right =
       let ps = pairsOf (bits bytes) in
-      written-16 (λ v. occurrences v (halfBytes (bits bytes))) (pokerOf (t .pairs)) refl
+      written numbers-16 (λ v. occurrences v (halfBytes (bits bytes))) (pokerOf (t .pairs)) refl
       (λ v h.
-      let low : getD (t .pairs) v 0 ≡ occurrences v (pairsOf (bits bytes)) = rw (done .pairs) (at-32 (λ p. occurrences p (pairsOf (bits bytes))) v (omega arith)) in
-      let high : getD (t .pairs) (16 + v) 0 ≡ occurrences (16 + v) (pairsOf (bits bytes)) = rw (done .pairs) (at-32 (λ p. occurrences p (pairsOf (bits bytes))) (16 + v) (omega arith)) in
-      at-16 (λ i. getD (t .pairs) i 0 + getD (t .pairs) (16 + i) 0) v h
+      let low : getD (t .pairs) v 0 ≡ occurrences v (pairsOf (bits bytes)) = rw (done .pairs) (at-place numbers-32 (λ p. occurrences p (pairsOf (bits bytes))) v (omega arith)) in
+      let high : getD (t .pairs) (16 + v) 0 ≡ occurrences (16 + v) (pairsOf (bits bytes)) = rw (done .pairs) (at-place numbers-32 (λ p. occurrences p (pairsOf (bits bytes))) (16 + v) (omega arith)) in
+      at-place numbers-16 (λ i. getD (t .pairs) i 0 + getD (t .pairs) (16 + i) 0) v h
       ∙ omega (arith, low, high, poker-total 0 (omega arith) (halfBytes (bits bytes)) (halves-under bytes) v h))
 
-  runs-right : (b : ℕ) → b < 2 → ((p : ℕ) → p < 32 → inner b 4 p + inner b 5 p + inner b 6 p ≡ 0) → runsIn b t ≡ map (λ k. howMany b k (runs (bits bytes))) sizes
+  runs-right : (b : ℕ) → b < 2 → runsIn b t ≡ map (λ k. howMany b k (runs (bits bytes))) sizes
   unfolding runsIn insideAt
-  runs-right b h short =
+  runs-right b h =
       let some : (k : ℕ) → 0 < k → k ≤ 6 → getD (t .ended) (place b k) 0 + dot (t .pairs) (insideAt b k) ≡ howMany b k (runs (bits bytes)) =
       λ k l m. omega (arith, done .ended b k h l m, weighed (inner b k)) in
-      let none : (k : ℕ) → 0 < k → k ≤ 6 → ((p : ℕ) → p < 32 → inner b k p ≡ 0) → getD (t .ended) (place b k) 0 ≡ howMany b k (runs (bits bytes)) =
-      λ k l m z. omega (arith, done .ended b k h l m, total-zero (inner b k) (pairsOf (bits bytes)) pairs-below z) in
+      let none : (k : ℕ) → 3 < k → k ≤ 6 → getD (t .ended) (place b k) 0 ≡ howMany b k (runs (bits bytes)) =
+      λ k l m.
+      omega (
+        arith,
+        done .ended b k h (omega arith) m,
+        total-zero (inner b k) (pairsOf (bits bytes)) pairs-below (λ p q. none-longer b k (innerRuns p) (omega (arith, short p q)) m),
+      ) in
       cc (
         some 1 (omega arith) (omega arith),
         some 2 (omega arith) (omega arith),
         some 3 (omega arith) (omega arith),
-        none 4 (omega arith) (omega arith) (λ p l. omega (arith, short p l)),
-        none 5 (omega arith) (omega arith) (λ p l. omega (arith, short p l)),
-        none 6 (omega arith) (omega arith) (λ p l. omega (arith, short p l)),
+        none 4 (omega arith) (omega arith),
+        none 5 (omega arith) (omega arith),
+        none 6 (omega arith) (omega arith),
       )
 
   pub counts-right : countsIn t ≡ countsOf (bits bytes)
-  unfolding Short countsIn countsOf runCounts
-  counts-right =
-      rw (
-        ones-right,
-        poker-right,
-        runs-right 0 (omega arith) (λ p h. omega (arith, each Short 32 all-short p h)),
-        runs-right 1 (omega arith) (λ p h. omega (arith, each Short 32 all-short p h)),
-        done .longest,
-      )
+  unfolding countsIn countsOf runCounts
+  counts-right = rw (ones-right, poker-right, runs-right 0 (omega arith), runs-right 1 (omega arith), done .longest)
 
   pub small : Small t
   small = record { size = rw (done .pairs); pairs = done .few-pairs; ended = done .few-ended }

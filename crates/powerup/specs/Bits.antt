@@ -6,7 +6,7 @@ use mathlib.Core.List.{List, [], _∷_, _++_}
 abbrev pub byteBits : ℕ → List ℕ
 byteBits b = b / 128 % 2 ∷ b / 64 % 2 ∷ b / 32 % 2 ∷ b / 16 % 2 ∷ b / 8 % 2 ∷ b / 4 % 2 ∷ b / 2 % 2 ∷ b % 2 ∷ []
 
--- the bits of bytes, one after the other
+-- the bits of a list of bytes, in order
 unfoldable pub bits : List ℕ → List ℕ
 bits [] = []
 bits (b ∷ bytes) = byteBits b ++ bits bytes

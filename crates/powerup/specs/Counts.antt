@@ -1,4 +1,4 @@
--- What is counted, over any list of bits and whatever the edition. Document 02 §9: "Reply with all counts and four verdicts. Counting is shown
+-- What is counted in any list of bits. The edition does not matter here. Document 02 §9: "Reply with all counts and four verdicts. Counting is shown
 -- once; the editions differ in their numbers alone."
 use Prim.Native.Nat.{ℕ, suc, _+_, _*_, min, max}
 use mathlib.Core.Bool.{Bool, cond, _&&_}
@@ -7,12 +7,12 @@ use lib.Dec.{eqb}
 use Rattle.powerup.specs.declared.RunCounts.{RunCounts}
 use Rattle.powerup.specs.declared.Counts.{Counts}
 
--- how often a number stands in a list
+-- how often a number occurs in a list
 unfoldable pub occurrences : ℕ → List ℕ → ℕ
 occurrences v [] = 0
 occurrences v (x ∷ xs) = cond (eqb x v) (suc (occurrences v xs)) (occurrences v xs)
 
--- each four bits as a number, highest bit first; fewer than four at the end are left out
+-- each four bits as a number, highest bit first; up to three bits left at the end are dropped
 unfoldable pub halfBytes : List ℕ → List ℕ
 halfBytes [] = []
 halfBytes (a ∷ []) = []
@@ -32,7 +32,7 @@ unfoldable pub sumOfSquares : List ℕ → ℕ
 sumOfSquares [] = 0
 sumOfSquares (c ∷ cs) = c * c + sumOfSquares cs
 
--- a run: equal bits, as many as there are in a row
+-- a run: the bit, and how often it is repeated
 pub record Run : Type 0 where
   pub bit : ℕ
   pub len : ℕ
@@ -40,7 +40,7 @@ pub record Run : Type 0 where
 abbrev pub run : ℕ → ℕ → Run
 run b n = record { bit = b; len = n }
 
--- the runs of the bits that follow n bits b
+-- the runs of n bits b followed by a list of bits
 unfoldable pub runsFrom : ℕ → ℕ → List ℕ → List Run
 runsFrom b n [] = run b n ∷ []
 runsFrom b n (c ∷ cs) = cond (eqb c b) (runsFrom b (suc n) cs) (run b n ∷ runsFrom c 1 cs)
@@ -50,11 +50,11 @@ unfoldable pub runs : List ℕ → List Run
 runs [] = []
 runs (b ∷ bs) = runsFrom b 1 bs
 
--- a run of the bit b and of length k, where 6 stands for "6 or more"
+-- whether a run has the bit b and the length k, where 6 means "6 or more"
 unfoldable pub isOf : ℕ → ℕ → Run → Bool
 isOf b k r = eqb (r .bit) b && eqb (min (r .len) 6) k
 
--- how many of the runs are such
+-- the number of such runs
 unfoldable pub howMany : ℕ → ℕ → List Run → ℕ
 howMany b k [] = 0
 howMany b k (r ∷ rs) = cond (isOf b k r) (suc (howMany b k rs)) (howMany b k rs)

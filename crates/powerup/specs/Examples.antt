@@ -1,4 +1,4 @@
--- The definitions on small lists, computed.
+-- Examples of the definitions, proved by computation.
 use mathlib.Core.Path.{_≡_, refl}
 use mathlib.Core.Bool.{true, false}
 use mathlib.Core.List.{[], _∷_}
@@ -16,7 +16,7 @@ pub half-bytes-of-c5 : halfBytes (bits (0xc5 ∷ [])) ≡ 12 ∷ 5 ∷ []
 unfolding bits halfBytes
 half-bytes-of-c5 = refl
 
--- the ones at the end of the first byte and at the start of the second are one run, and the last run counts
+-- the ones at the end of the first byte and at the start of the second are one run; the last run counts too
 pub runs-across : runs (bits (0x03 ∷ 0xe0 ∷ [])) ≡ run 0 6 ∷ run 1 5 ∷ run 0 5 ∷ []
 unfolding bits runs runsFrom
 runs-across = refl

@@ -1,4 +1,4 @@
--- The numbers of the two editions, and nothing else of them. Document 02 §9: "from FIPS 140-1 and from FIPS 140-2 before its Change Notice 2; the
+-- The numbers of the two editions. They differ in nothing else. Document 02 §9: "from FIPS 140-1 and from FIPS 140-2 before its Change Notice 2; the
 -- numbers here decide."
 use Prim.Native.Nat.{ℕ}
 use mathlib.Core.List.{[], _∷_}

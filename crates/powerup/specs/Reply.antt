@@ -20,7 +20,7 @@ numberOf Done = 0
 numberOf WrongLength = 16
 numberOf WrongEdition = 17
 
--- nothing is counted, and no verdict passes
+-- all counts are 0, and no verdict passes
 unfoldable pub refused : Answer → Reply
 refused a = record {
   answer = a;

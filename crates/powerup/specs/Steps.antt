@@ -1,5 +1,5 @@
--- How the code counts: a half-byte at a time. These definitions are for the code's own functions; the reply says nothing of them.
-use Prim.Native.Nat.{ℕ, _+_, _*_, _/_, _%_, _≤_, _<_, min, max}
+-- How the code counts: a half-byte at a time. These definitions serve the contracts of private functions; the promise does not rest on them.
+use Prim.Native.Nat.{ℕ, _+_, _*_, _/_, _%_, _^_, _≤_, _<_, min, max}
 use mathlib.Core.Path.{_≡_}
 use mathlib.Core.Bool.{cond}
 use mathlib.Core.List.{List, [], _∷_, map}
@@ -19,16 +19,16 @@ Few l n = (i : ℕ) → getD l i 0 ≤ n
 unfoldable pub raised : List ℕ → ℕ → List ℕ
 raised l i = set l i (getD l i 0 + 1)
 
--- the place of a run in the table of ended runs. Runs of length 0 have places too, which nobody reads.
+-- the place of a run in the table of ended runs. Runs of length 0 have places too, which are never read.
 abbrev pub place : ℕ → ℕ → ℕ
 place b n = 7 * b + min n 6
 
--- the place of a half-byte after a bit in the table of pairs
+-- the index of a pair, a bit and the half-byte after it, in the table of pairs
 abbrev pub pair : ℕ → ℕ → ℕ
 pair b half = 16 * b + half
 
--- At each pair: how many of the half-byte's first bits equal the bit before it; the longest run that follows these and ends inside. At each
--- half-byte: the length of its last run.
+-- The code's tables. At each pair: how many of the half-byte's first bits equal the bit before it (`leads`); the longest run that follows them and
+-- ends inside the half-byte (`insides`). At each half-byte: the length of its last run (`lasts`).
 abbrev pub leads : List ℕ
 leads =
     4 ∷ 3 ∷ 2 ∷ 2 ∷ 1 ∷ 1 ∷ 1 ∷ 1 ∷ 0 ∷ 0 ∷ 0 ∷ 0 ∷ 0 ∷ 0 ∷ 0 ∷ 0
@@ -42,7 +42,7 @@ insides =
 abbrev pub lasts : List ℕ
 lasts = 4 ∷ 1 ∷ 1 ∷ 2 ∷ 2 ∷ 1 ∷ 1 ∷ 3 ∷ 3 ∷ 1 ∷ 1 ∷ 2 ∷ 2 ∷ 1 ∷ 1 ∷ 4 ∷ []
 
--- the last run after a half-byte, and the length of the run that it ended: 0 where the run goes on
+-- the last run after a half-byte, and the length of the run that the half-byte ended: 0 if the run goes on
 unfoldable pub stepped : LastRun → ℕ → Step
 stepped o half =
     cond (eqb (getD leads (pair (o .bit) half) 0) 4)
@@ -60,12 +60,12 @@ stepped o half =
 abbrev pub halfBits : ℕ → List ℕ
 halfBits v = v / 8 % 2 ∷ v / 4 % 2 ∷ v / 2 % 2 ∷ v % 2 ∷ []
 
--- the pairs of half-bytes that follow a bit
+-- the pairs of a list of half-bytes after a bit
 unfoldable pub pairsFrom : ℕ → List ℕ → List ℕ
 pairsFrom b [] = []
 pairsFrom b (v ∷ vs) = pair b v ∷ pairsFrom (v % 2) vs
 
--- the pairs of a block: no bit stands before it, which counts as a zero
+-- the pairs of a block; its first half-byte is paired with a zero
 abbrev pub pairsOf : List ℕ → List ℕ
 pairsOf bs = pairsFrom 0 (halfBytes bs)
 
@@ -74,11 +74,11 @@ butLast [] = []
 butLast (r ∷ []) = []
 butLast (r ∷ q ∷ rs) = r ∷ butLast (q ∷ rs)
 
--- the runs of a half-byte that neither go on from the bit before it nor touch its end
+-- the runs inside a pair's half-byte: they neither continue the bit before it nor touch its end
 unfoldable pub innerRuns : ℕ → List Run
 innerRuns p = butLast (drop 1 (runsFrom (p / 16) 0 (halfBits (p % 16))))
 
--- a function of each number of a list, added up
+-- the sum of a function over a list
 unfoldable pub total : (ℕ → ℕ) → List ℕ → ℕ
 total f [] = 0
 total f (x ∷ xs) = f x + total f xs
@@ -88,7 +88,7 @@ thirtyTwo =
     0 ∷ 1 ∷ 2 ∷ 3 ∷ 4 ∷ 5 ∷ 6 ∷ 7 ∷ 8 ∷ 9 ∷ 10 ∷ 11 ∷ 12 ∷ 13 ∷ 14 ∷ 15
     ∷ 16 ∷ 17 ∷ 18 ∷ 19 ∷ 20 ∷ 21 ∷ 22 ∷ 23 ∷ 24 ∷ 25 ∷ 26 ∷ 27 ∷ 28 ∷ 29 ∷ 30 ∷ 31 ∷ []
 
--- what has been counted when all bits are read
+-- the tally when all bits are read
 pub record Tallied (bs : List ℕ) (t : Tally) : Type 0 where
   pub pairs : t .pairs ≡ map (λ p. occurrences p (pairsOf bs)) thirtyTwo
   pub ended : (b k : ℕ) → b < 2 → 0 < k → k ≤ 6 → getD (t .ended) (place b k) 0 + total (λ p. howMany b k (innerRuns p)) (pairsOf bs) ≡ howMany b k (runs bs)
@@ -96,7 +96,7 @@ pub record Tallied (bs : List ℕ) (t : Tally) : Type 0 where
   pub few-ended : Few (t .ended) 5001
   pub longest : t .longest ≡ longest (runs bs)
 
--- what a half-byte may meet: no number is near its type's end
+-- what reading a half-byte requires: no number is near its type's limit
 pub record Ready (o : LastRun) (v : ℕ) (pairs ended : List ℕ) : Type 0 where
   pub bit : o .bit < 2
   pub half : v < 16
@@ -106,26 +106,26 @@ pub record Ready (o : LastRun) (v : ℕ) (pairs ended : List ℕ) : Type 0 where
   pub few-pairs : Few pairs 100000
   pub few-ended : Few ended 100000
 
--- numbers and weights whose sum fits
+-- numbers and weights whose sum of products fits
 pub record Light (xs ws : List ℕ) : Type 0 where
   pub same : length xs ≡ length ws
   pub most : length xs ≤ 32
   pub few : Few xs 10000
   pub light : Few ws 10000
 
--- numbers multiplied each with its weight, and added up
+-- the sum of numbers, each times its weight
 unfoldable pub dot : List ℕ → List ℕ → ℕ
 dot [] ws = 0
 dot (x ∷ xs) [] = 0
 dot (x ∷ xs) (w ∷ ws) = x * w + dot xs ws
 
--- how often a half-byte occurs: after a zero and after a one
+-- how often each half-byte occurs: after a zero and after a one together
 unfoldable pub pokerOf : List ℕ → List ℕ
 pokerOf pairs = map (λ v. getD pairs v 0 + getD pairs (16 + v) 0) sixteen
 
--- the runs of one bit: those that ended at the places after `first`, and those of length 1, 2 and 3 inside a half-byte
-abbrev pub runsOf : List ℕ → ℕ → ℕ → ℕ → ℕ → List ℕ
-runsOf ended first x y z =
+-- the runs of one bit, by length: the six places after `first` have the ended runs; x, y and z are the runs of length 1, 2 and 3 inside a half-byte
+abbrev pub byLength : List ℕ → ℕ → ℕ → ℕ → ℕ → List ℕ
+byLength ended first x y z =
     (getD ended (first + 1) 0 + x)
     ∷ (getD ended (first + 2) 0 + y)
     ∷ (getD ended (first + 3) 0 + z)
@@ -134,18 +134,31 @@ runsOf ended first x y z =
     ∷ getD ended (first + 6) 0
     ∷ []
 
--- At each pair: the ones of the half-byte; the runs of one kind inside it.
+-- what `byLength` requires: its places are in the table, and its sums fit
+pub record Room (ended : List ℕ) (first x y z : ℕ) : Type 0 where
+  pub places : first ≤ 7
+  pub one : getD ended (first + 1) 0 + x < 2 ^ 32
+  pub two : getD ended (first + 2) 0 + y < 2 ^ 32
+  pub three : getD ended (first + 3) 0 + z < 2 ^ 32
+
+-- At each pair: the ones of the half-byte; the runs of the bit b and the length k inside it.
 unfoldable pub onesAt : List ℕ
 onesAt = map (λ p. occurrences 1 (halfBits (p % 16))) thirtyTwo
 
 unfoldable pub insideAt : ℕ → ℕ → List ℕ
 insideAt b k = map (λ p. howMany b k (innerRuns p)) thirtyTwo
 
+-- weights that count the runs of the bit b inside a half-byte: those of length 1, of 2 and of 3
+pub record Insides (b : ℕ) (singles doubles triples : List ℕ) : Type 0 where
+  pub one : singles ≡ insideAt b 1
+  pub two : doubles ≡ insideAt b 2
+  pub three : triples ≡ insideAt b 3
+
 -- the runs of one bit in a tally
 unfoldable pub runsIn : ℕ → Tally → List ℕ
-runsIn b t = runsOf (t .ended) (7 * b) (dot (t .pairs) (insideAt b 1)) (dot (t .pairs) (insideAt b 2)) (dot (t .pairs) (insideAt b 3))
+runsIn b t = byLength (t .ended) (7 * b) (dot (t .pairs) (insideAt b 1)) (dot (t .pairs) (insideAt b 2)) (dot (t .pairs) (insideAt b 3))
 
--- what a tally comes to
+-- the counts that follow from a tally
 unfoldable pub countsIn : Tally → Counts
 countsIn t = record {
   ones = dot (t .pairs) onesAt;
@@ -154,7 +167,7 @@ countsIn t = record {
   runs = record { zeros = runsIn 0 t; ones = runsIn 1 t; longest = t .longest };
 }
 
--- a tally whose numbers are small enough to go on with
+-- a tally whose numbers are small enough for the sums
 pub record Small (t : Tally) : Type 0 where
   pub size : length (t .pairs) ≡ 32
   pub pairs : Few (t .pairs) 5000

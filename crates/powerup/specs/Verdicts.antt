@@ -1,4 +1,4 @@
--- The four verdicts on counts, over any limits. A verdict is true where the block passes.
+-- The four verdicts on counts, for any limits. A verdict is true if the block passes.
 use Prim.Native.Nat.{ℕ}
 use mathlib.Core.Bool.{Bool, true, _&&_}
 use mathlib.Core.List.{List, [], _∷_}

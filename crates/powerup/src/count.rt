@@ -1,6 +1,8 @@
-// The counts of a block, a half-byte at a time. How often each half-byte comes after each bit is counted: ones, poker counts and the runs that lie
-// inside a half-byte follow from these 32 numbers at the end. In the loop only the run that comes into the half-byte is measured, with one
-// branch, which random bits take once in sixteen.
+// Counts a block, a half-byte at a time.
+//
+// A half-byte and the bit before it make one of 32 pairs. The loop counts how often each pair occurs. The ones, the poker counts and the runs inside a
+// half-byte follow from these 32 numbers at the end. So the loop measures only the run that comes into a half-byte. It has one branch, which
+// random bits take once in sixteen.
 use crate::Counts;
 use crate::RunCounts;
 use crate::tables::INSIDES;
@@ -27,15 +29,17 @@ ghost use Rattle.powerup.specs.Steps.{
   Tallied,
   Ready,
   Light,
+  Insides,
+  Room,
   dot,
   pokerOf,
-  runsOf,
+  byLength,
   runsIn,
   countsIn,
   Small,
 };
 
-// The run that the last bit belongs to, and the longest of those before it.
+// The run that the last bit read belongs to. `longest` is the length of the longest run before it.
 pub struct LastRun {
     pub bit: u32,
     pub length: u32,
@@ -44,14 +48,14 @@ pub struct LastRun {
 
 pub struct Step {
     pub next: LastRun,
-    // the length of the run that ended, or 0
+    // the length of the run that ended, or 0 if none did
     pub ended: u32,
 }
 
 pub struct Tally {
-    // how often each half-byte came after each bit
+    // how often each pair occurred
     pub pairs: [u32; 32],
-    // the runs that ended, by `place`, without those that begin and end inside one half-byte
+    // how many runs ended, by `place`; runs inside one half-byte are left out
     pub ended: [u32; 14],
     pub longest: u32,
 }
@@ -64,7 +68,7 @@ pub(crate) fn count(bytes: &[u8]) -> Counts
     counts_in(read_all(bytes))
 }
 
-// What a tally comes to.
+// The counts that follow from a tally.
 fn counts_in(t: Tally) -> Counts
     requires { ⌜ Small t ⌝ }
     ensures { λ r. ⌜ r ≡ countsIn t ⌝ }
@@ -76,40 +80,34 @@ fn counts_in(t: Tally) -> Counts
         poker,
         sum: squares(poker),
         runs: RunCounts {
-            zeros: runs_of_zeros(t),
-            ones: runs_of_ones(t),
+            zeros: runs_of(t, 0, ZEROS_OF_1, ZEROS_OF_2, ZEROS_OF_3),
+            ones: runs_of(t, 1, ONES_OF_1, ONES_OF_2, ONES_OF_3),
             longest: t.longest,
         },
     }
 }
 
-// The runs of zeros of each length: those that ended in the loop, and those inside a half-byte.
-fn runs_of_zeros(t: Tally) -> [u32; 6]
-    requires { ⌜ Small t ⌝ }
-    ensures { λ r. ⌜ r ≡ runsIn 0 t ⌝ }
+// The runs of one bit, by length: those that ended in the loop and those inside a half-byte. The second kind is at most 3 long. `singles`, `doubles`
+// and `triples` say for each pair how many runs of length 1, 2 and 3 lie inside its half-byte.
+fn runs_of(
+    t: Tally,
+    bit: usize,
+    singles: [u32; 32],
+    doubles: [u32; 32],
+    triples: [u32; 32],
+) -> [u32; 6]
+    requires { ⌜ Small t × (bit < 2) × Insides bit singles doubles triples ⌝ }
+    ensures { λ r. ⌜ r ≡ runsIn bit t ⌝ }
 {
     let pairs = t.pairs;
     let ended = t.ended;
-    let x = over_pairs(pairs, ZEROS_OF_1);
-    let y = over_pairs(pairs, ZEROS_OF_2);
-    let z = over_pairs(pairs, ZEROS_OF_3);
-    runs_of(ended, 0, x, y, z)
+    let x = over_pairs(pairs, singles);
+    let y = over_pairs(pairs, doubles);
+    let z = over_pairs(pairs, triples);
+    by_length(ended, 7 * bit, x, y, z)
 }
 
-// The same for ones.
-fn runs_of_ones(t: Tally) -> [u32; 6]
-    requires { ⌜ Small t ⌝ }
-    ensures { λ r. ⌜ r ≡ runsIn 1 t ⌝ }
-{
-    let pairs = t.pairs;
-    let ended = t.ended;
-    let x = over_pairs(pairs, ONES_OF_1);
-    let y = over_pairs(pairs, ONES_OF_2);
-    let z = over_pairs(pairs, ONES_OF_3);
-    runs_of(ended, 7, x, y, z)
-}
-
-// Reads every half-byte; then the last run has ended too.
+// Reads every half-byte, then counts the last run.
 fn read_all(bytes: &[u8]) -> Tally
     requires { ⌜ length (now bytes) ≡ 2500 ⌝ }
     ensures { λ r. ⌜ Tallied (bits (now (bytes .entry))) r ⌝ }
@@ -129,7 +127,7 @@ fn read_all(bytes: &[u8]) -> Tally
         i += 1;
     }
     let at = place(run.bit, run.length);
-    ended[at] += 1;
+    raise(&mut ended, at);
     Tally {
         pairs,
         ended,
@@ -137,35 +135,41 @@ fn read_all(bytes: &[u8]) -> Tally
     }
 }
 
-// Separate because a cast of an element would have to be proved to fit.
+// Separate because the checker asks for a proof that an element fits when it is cast, and for none when a parameter is.
 fn wide(x: u8) -> u32
     ensures { λ r. ⌜ r ≡ x ⌝ }
 {
     x as u32
 }
 
-// Four more bits. Where no run ended, a run of no bits is counted, at a place that nobody reads.
+// Reads four more bits. If no run ended, a run of length 0 is counted, at a place that is never read.
 fn with_half(run: LastRun, half: u32, pairs: &mut [u32; 32], ended: &mut [u32; 14]) -> LastRun
     requires { ⌜ Ready run half (now pairs) (now ended) ⌝ }
     ensures { λ r. ⌜ r ≡ stepped run half .next ⌝ }
     ensures { λ r. ⌜ now (pairs .exit) ≡ raised (now (pairs .entry)) (pair (run .bit) half) ⌝ }
     ensures { λ r. ⌜ now (ended .exit) ≡ raised (now (ended .entry)) (place (run .bit) (stepped run half .ended)) ⌝ }
 {
-    let pair = (16 * run.bit + half) as usize;
-    pairs[pair] += 1;
-    let step = after(run, half);
-    let at = place(run.bit, step.ended);
-    ended[at] += 1;
+    let index = (16 * run.bit + half) as usize;
+    raise(pairs, index);
+    let step = after(run, half, index);
+    raise(ended, place(run.bit, step.ended));
     step.next
 }
 
-// The last run after four more bits, and the run that they ended.
-fn after(run: LastRun, half: u32) -> Step
-    requires { ⌜ (run .bit < 2) × (half < 16) × (run .length ≤ 100000) ⌝ }
+// Raises the number at a place by one.
+fn raise(counts: &mut [u32], at: usize)
+    requires { ⌜ (at < length (now counts)) × Few (now counts) 100000 ⌝ }
+    ensures { λ r. ⌜ now (counts .exit) ≡ raised (now (counts .entry)) at ⌝ }
+{
+    counts[at] += 1;
+}
+
+// The last run after four more bits, and the run that they ended. `index` is the pair's.
+fn after(run: LastRun, half: u32, index: usize) -> Step
+    requires { ⌜ (run .bit < 2) × (half < 16) × (run .length ≤ 100000) × (index ≡ pair (run .bit) half) ⌝ }
     ensures { λ r. ⌜ r ≡ stepped run half ⌝ }
 {
-    let pair = (16 * run.bit + half) as usize;
-    let lead = LEADS[pair] as u32;
+    let lead = LEADS[index] as u32;
     if lead == 4 {
         return Step {
             next: LastRun {
@@ -182,7 +186,7 @@ fn after(run: LastRun, half: u32) -> Step
         next: LastRun {
             bit: half % 2,
             length: LASTS[at] as u32,
-            longest: larger(larger(run.longest, ended), INSIDES[pair] as u32),
+            longest: larger(larger(run.longest, ended), INSIDES[index] as u32),
         },
         ended,
     }
@@ -194,7 +198,7 @@ fn larger(a: u32, b: u32) -> u32
     if a < b { b } else { a }
 }
 
-// The place of a run among the ended ones, where a length of 6 stands for 6 or more.
+// The place of a run in `Tally::ended`. Runs of length 6 or more share a place.
 fn place(bit: u32, length: u32) -> usize
     requires { ⌜ bit < 2 ⌝ }
     ensures { λ r. ⌜ r ≡ place bit length ⌝ }
@@ -203,7 +207,7 @@ fn place(bit: u32, length: u32) -> usize
     (7 * bit + most) as usize
 }
 
-// The pairs, each with its weight.
+// The sum of the pairs' numbers, each times its weight.
 fn over_pairs(pairs: [u32; 32], weights: [u32; 32]) -> u32
     requires { ⌜ Light pairs weights ⌝ }
     ensures { λ r. ⌜ (r ≡ dot pairs weights) × (r ≤ 3200000000) ⌝ }
@@ -231,7 +235,7 @@ fn weighed(counts: &[u32], weights: &[u32]) -> u32
     sum
 }
 
-// How often each half-byte occurs, after a zero and after a one.
+// How often each half-byte occurs: after a zero and after a one together.
 fn poker_counts(pairs: [u32; 32]) -> [u32; 16]
     requires { ⌜ (length pairs ≡ 32) × Few pairs 5000 ⌝ }
     ensures { λ r. ⌜ r ≡ pokerOf pairs ⌝ }
@@ -245,10 +249,11 @@ fn poker_counts(pairs: [u32; 32]) -> [u32; 16]
     poker
 }
 
-// The runs of one bit, whose places follow `first`; x, y and z are those of length 1, 2 and 3 inside a half-byte.
-fn runs_of(ended: [u32; 14], first: usize, x: u32, y: u32, z: u32) -> [u32; 6]
-    requires { ⌜ (first ≤ 7) × (x ≤ 3200000000) × (y ≤ 3200000000) × (z ≤ 3200000000) × Few ended 5001 ⌝ }
-    ensures { λ r. ⌜ r ≡ runsOf ended first x y z ⌝ }
+// The runs of one bit, by length. Those that ended in the loop stand at the six places after `first`. x, y and z are the runs of length 1, 2 and 3
+// inside a half-byte.
+fn by_length(ended: [u32; 14], first: usize, x: u32, y: u32, z: u32) -> [u32; 6]
+    requires { ⌜ Room ended first x y z ⌝ }
+    ensures { λ r. ⌜ r ≡ byLength ended first x y z ⌝ }
 {
     [
         ended[first + 1] + x,

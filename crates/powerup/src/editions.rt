@@ -1,47 +1,73 @@
-// The numbers of the two editions.
+// The limits of the two editions.
 use crate::Interval;
 use crate::Limits;
-ghost use mathlib.Core.Path.{_≡_};
-ghost use Rattle.powerup.specs.Limits.{first-edition, second-edition, _to_};
 
-fn to(low: u32, high: u32) -> Interval
-    ensures { λ r. ⌜ r ≡ low to high ⌝ }
-{
-    Interval { low, high }
-}
+pub(crate) const FIRST: Limits = Limits {
+    ones: Interval {
+        low: 9654,
+        high: 10346,
+    },
+    poker: Interval {
+        low: 1562822,
+        high: 1580437,
+    },
+    runs: [
+        Interval {
+            low: 2267,
+            high: 2733,
+        },
+        Interval {
+            low: 1079,
+            high: 1421,
+        },
+        Interval {
+            low: 502,
+            high: 748,
+        },
+        Interval {
+            low: 223,
+            high: 402,
+        },
+        Interval { low: 90, high: 223 },
+        Interval { low: 90, high: 223 },
+    ],
+    long: 34,
+};
 
-pub(crate) fn first() -> Limits
-    ensures { λ r. ⌜ r ≡ first-edition ⌝ }
-{
-    Limits {
-        ones: to(9654, 10346),
-        poker: to(1562822, 1580437),
-        runs: [
-            to(2267, 2733),
-            to(1079, 1421),
-            to(502, 748),
-            to(223, 402),
-            to(90, 223),
-            to(90, 223),
-        ],
-        long: 34,
-    }
-}
-
-pub(crate) fn second() -> Limits
-    ensures { λ r. ⌜ r ≡ second-edition ⌝ }
-{
-    Limits {
-        ones: to(9725, 10275),
-        poker: to(1563176, 1576928),
-        runs: [
-            to(2315, 2685),
-            to(1114, 1386),
-            to(527, 723),
-            to(240, 384),
-            to(103, 209),
-            to(103, 209),
-        ],
-        long: 26,
-    }
-}
+pub(crate) const SECOND: Limits = Limits {
+    ones: Interval {
+        low: 9725,
+        high: 10275,
+    },
+    poker: Interval {
+        low: 1563176,
+        high: 1576928,
+    },
+    runs: [
+        Interval {
+            low: 2315,
+            high: 2685,
+        },
+        Interval {
+            low: 1114,
+            high: 1386,
+        },
+        Interval {
+            low: 527,
+            high: 723,
+        },
+        Interval {
+            low: 240,
+            high: 384,
+        },
+        Interval {
+            low: 103,
+            high: 209,
+        },
+        Interval {
+            low: 103,
+            high: 209,
+        },
+    ],
+    long: 26,
+};

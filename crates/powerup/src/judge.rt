@@ -1,4 +1,4 @@
-// The four verdicts, over any limits.
+// The four verdicts, for any limits.
 use crate::Answer;
 use crate::Counts;
 use crate::Interval;

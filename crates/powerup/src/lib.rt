@@ -1,6 +1,6 @@
-// The four old power-up tests on 20,000 bits: monobit, poker, runs and long run, in two editions that differ in their numbers alone.
+// The four old power-up tests on 20,000 bits: monobit, poker, runs and long run. The two editions differ only in their limits.
 //
-// Document 02 §9; specs/ quotes it, and says what each count and each verdict is.
+// Document 02 §9 asks for them. specs/ quotes it and defines each count and each verdict.
 mod count;
 mod editions;
 mod judge;
@@ -9,7 +9,7 @@ mod tables;
 ghost use mathlib.Core.Path.{_≡_};
 ghost use Rattle.powerup.specs.Reply.{numberOf, refused, replyOf};
 
-// How many runs there are of length 1, 2, 3, 4, 5, and 6 or more, and the longest.
+// The number of runs of length 1, 2, 3, 4, 5, and 6 or more, and the length of the longest run.
 pub struct RunCounts {
     pub zeros: [u32; 6],
     pub ones: [u32; 6],
@@ -20,7 +20,7 @@ pub struct Counts {
     pub ones: u32,
     // how often each half-byte occurs
     pub poker: [u32; 16],
-    // the sum of the squares of these
+    // the sum of the squares of the poker counts
     pub sum: u32,
     pub runs: RunCounts,
 }
@@ -30,7 +30,7 @@ pub struct Interval {
     pub high: u32,
 }
 
-// The numbers of an edition. Ones lie strictly between; the other intervals include their ends; a run of `long` bits is too long.
+// The limits of an edition. Ones must lie strictly inside their interval. The other intervals include their ends. A run of `long` or more bits fails.
 pub struct Limits {
     pub ones: Interval,
     pub poker: Interval,
@@ -38,7 +38,7 @@ pub struct Limits {
     pub long: u32,
 }
 
-// Whether the block passes.
+// `true` is a pass.
 pub struct Verdicts {
     pub monobit: bool,
     pub poker: bool,
@@ -70,7 +70,7 @@ impl Answer {
     }
 }
 
-// The counts of a block and its verdicts in an edition, 1 or 2.
+// Counts a block of 2,500 bytes and judges it by edition 1 or 2.
 pub fn power_up(bytes: &[u8], edition: u32) -> Reply
     ensures { λ r. ⌜ r ≡ replyOf (now (bytes .entry)) edition ⌝ }
 {
@@ -78,10 +78,10 @@ pub fn power_up(bytes: &[u8], edition: u32) -> Reply
         return refuse(Answer::WrongLength);
     }
     if edition == 1 {
-        return judge::judge(editions::first(), count::count(bytes));
+        return judge::judge(editions::FIRST, count::count(bytes));
     }
     if edition == 2 {
-        return judge::judge(editions::second(), count::count(bytes));
+        return judge::judge(editions::SECOND, count::count(bytes));
     }
     refuse(Answer::WrongEdition)
 }

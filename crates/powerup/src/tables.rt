@@ -1,5 +1,5 @@
-// What is known of a half-byte, at each half-byte or at each pair of a bit and the half-byte after it (16 times the bit, and the half-byte). The proof
-// compares every number with the definitions.
+// Facts about half-bytes. LASTS has an entry for each half-byte. Every other table has one for each pair of a bit and the half-byte after it, at the
+// index 16 × bit + half-byte. The proof compares every entry with its definition.
 
 // How many of the half-byte's first bits equal the bit before it.
 pub(crate) const LEADS: [u8; 32] = [
@@ -37,7 +37,7 @@ pub(crate) const LEADS: [u8; 32] = [
     4,
 ];
 
-// The longest run behind these that ends inside the half-byte.
+// The longest run that follows those bits and ends inside the half-byte; 0 if there is none.
 pub(crate) const INSIDES: [u8; 32] = [
     0,
     0,
@@ -73,10 +73,10 @@ pub(crate) const INSIDES: [u8; 32] = [
     0,
 ];
 
-// At each half-byte: the length of its last run.
+// The length of the half-byte's last run.
 pub(crate) const LASTS: [u8; 16] = [4, 1, 1, 2, 2, 1, 1, 3, 3, 1, 1, 2, 2, 1, 1, 4];
 
-// The ones of the half-byte.
+// How many ones the half-byte has.
 pub(crate) const ONES: [u32; 32] = [
     0,
     1,
@@ -112,7 +112,7 @@ pub(crate) const ONES: [u32; 32] = [
     4,
 ];
 
-// How many runs of zeros, and of ones, of length 1, 2 and 3 lie inside the half-byte, behind its first bits and before its last run.
+// How many runs of zeros, or of ones, of length 1, 2 or 3 lie inside the half-byte: they neither continue the bit before it nor touch its end.
 pub(crate) const ZEROS_OF_1: [u32; 32] = [
     0,
     0,

@@ -1,6 +1,6 @@
 // The program's arguments, in any order.
 
-// The edition that the arguments name, 1 or 2; 0 where they name none, or another.
+// The edition that the arguments name, 1 or 2; 0 if they name neither.
 pub(crate) fn edition() -> u32 {
     let first = digit(1);
     if first != 0 { first } else { digit(2) }

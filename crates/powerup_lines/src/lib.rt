@@ -1,6 +1,8 @@
-// The program of the four power-up tests: EDITION, 1 or 2, and perhaps --counts, as arguments; bytes on standard input; a line for each block of
-// 2,500 bytes on standard output. When all is written, and the edition was one, it writes `ok` to descriptor 3: a program has no exit status, and
-// the script that starts it ends with 0 only then.
+// The program of the four power-up tests. Its arguments are EDITION, 1 or 2, and optionally --counts. It reads bytes from standard input and writes a
+// line for each block of 2,500 bytes to standard output.
+//
+// If every line was written and the edition is 1 or 2, it writes `ok` to descriptor 3. A program has no exit status, so the script that starts it
+// ends with 0 only if it finds that `ok`.
 mod arguments;
 mod line;
 
@@ -8,8 +10,9 @@ use libc::STDERR_FILENO;
 use libc::STDIN_FILENO;
 use libc::STDOUT_FILENO;
 
-enum Went {
-    On,
+// After a block: more may follow, the input has ended, or the line was not written.
+enum BlockResult {
+    More,
     End,
     Failed,
 }
@@ -26,31 +29,35 @@ pub fn run() {
     }
 }
 
-// Whether every line was written. A proved loop has to end: it counts the blocks, to a number that no input reaches.
+// Whether every line was written. A proved loop has to end, so this one stops at a number of blocks that no input reaches.
 fn blocks(edition: u32, counts: bool) -> bool {
     let mut number: u64 = 1;
     while number < u64::MAX {
         match block(number, edition, counts) {
-            Went::On => {}
-            Went::End => return true,
-            Went::Failed => return false,
+            BlockResult::More => {}
+            BlockResult::End => return true,
+            BlockResult::Failed => return false,
         }
         number += 1;
     }
     true
 }
 
-fn block(number: u64, edition: u32, counts: bool) -> Went {
+fn block(number: u64, edition: u32, counts: bool) -> BlockResult {
     let mut space = [0u8; 2500];
     let got = io::read_full(STDIN_FILENO, &mut space);
     if got == 0 {
-        return Went::End;
+        return BlockResult::End;
     }
     let reply = powerup::power_up(&space[..got], edition);
     let mut out = [0u8; 1024];
     let n = line::put_reply(&mut out, number, reply, counts);
     if !io::write_all(STDOUT_FILENO, &out[..n]) {
-        return Went::Failed;
+        return BlockResult::Failed;
     }
-    if got < 2500 { Went::End } else { Went::On }
+    if got < 2500 {
+        BlockResult::End
+    } else {
+        BlockResult::More
+    }
 }

@@ -1,4 +1,4 @@
-// A reply as a line, parted by tabs. A line has room for every field; what did not fit would be cut.
+// Writes a reply as a line of fields with a tab between them. The caller's buffer has room for every field; text that did not fit would be cut.
 use powerup::Answer;
 use powerup::Counts;
 use powerup::Reply;
@@ -12,6 +12,15 @@ pub(crate) fn put_reply(out: &mut [u8], number: u64, reply: Reply, counts: bool)
     let answer = reply.answer;
     let first = put_digits(out, 0, number);
     let at = put_number(out, first, answer.number());
+    let end = put_fields(out, at, reply, counts);
+    put(out, end, b"\n")
+}
+
+// The fields after the answer's number.
+fn put_fields(out: &mut [u8], at: usize, reply: Reply, counts: bool) -> usize
+    ensures { λ r. ⌜ r ≤ length (now (out .exit)) ⌝ }
+{
+    let answer = reply.answer;
     match answer {
         Answer::Done => put_judged(out, at, reply, counts),
         _ => put_refused(out, at, counts),
@@ -23,17 +32,26 @@ fn put_judged(out: &mut [u8], at: usize, reply: Reply, counts: bool) -> usize
 {
     let to = put_results(out, at, reply);
     if counts {
-        let end = put_counts(out, to, reply.counts);
-        return put(out, end, b"\n");
+        put_counts(out, to, reply.counts)
+    } else {
+        to
     }
-    put(out, to, b"\n")
 }
 
+// A dash for each of the 7 results, and for each of the 28 counts.
 fn put_refused(out: &mut [u8], at: usize, counts: bool) -> usize
     ensures { λ r. ⌜ r ≤ length (now (out .exit)) ⌝ }
 {
-    let to = put_dashes(out, at, if counts { 35 } else { 7 });
-    put(out, to, b"\n")
+    let to = put(out, at, b"\t-\t-\t-\t-\t-\t-\t-");
+    if counts {
+        put(
+            out,
+            to,
+            b"\t-\t-\t-\t-\t-\t-\t-\t-\t-\t-\t-\t-\t-\t-\t-\t-\t-\t-\t-\t-\t-\t-\t-\t-\t-\t-\t-\t-",
+        )
+    } else {
+        to
+    }
 }
 
 fn put_results(out: &mut [u8], at: usize, reply: Reply) -> usize
@@ -91,18 +109,6 @@ fn put_numbers(out: &mut [u8], at: usize, numbers: &[u32]) -> usize
     to
 }
 
-fn put_dashes(out: &mut [u8], at: usize, n: usize) -> usize
-    ensures { λ r. ⌜ r ≤ length (now (out .exit)) ⌝ }
-{
-    let mut to = put(out, at, b"");
-    let mut i: usize = 0;
-    while i < n {
-        to = put(out, to, b"\t-");
-        i += 1;
-    }
-    to
-}
-
 fn put_number(out: &mut [u8], at: usize, n: u32) -> usize
     ensures { λ r. ⌜ r ≤ length (now (out .exit)) ⌝ }
 {
@@ -118,7 +124,7 @@ fn put_digits(out: &mut [u8], at: usize, n: u64) -> usize
     put(out, at, &text[..k])
 }
 
-// Puts the text at a place, and answers the place after it.
+// Writes the text at a place and returns the place after it.
 fn put(out: &mut [u8], at: usize, text: &[u8]) -> usize
     ensures { λ r. ⌜ r ≤ length (now (out .exit)) ⌝ }
 {

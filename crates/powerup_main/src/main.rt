@@ -1,4 +1,4 @@
-// The power-up tests as a program: ./powerup starts it. In the gate it runs the second edition on the blocks of tests/model/vectors.py.
+// The power-up tests as a program, started by ./powerup. The gate runs it on the second edition's blocks of tests/model/vectors.py.
 
 fn main() {
     powerup_lines::run();

@@ -1,6 +1,7 @@
 -- `powerup::power_up` meets its contract. Assumes nothing.
 use borrow.Author.Needs.{needs}
 use borrow.Author.Tests.{eq-eqb, ne-eqb}
+use Rattle.powerup.specs.Limits.{first-edition, second-edition}
 use Rattle.powerup.specs.Reply.{replyOf}
 use Rattle.powerup.proofs.power_up.Statement.{statement}
 use Rattle.powerup.proofs.power_up.Tie as tie
@@ -12,9 +13,6 @@ returns : tie.Need-returns
 unfolding replyOf
 returns c = rw (ne-eqb _ 2500 (c .before .if1 .taken)) (c .refuse .ensures)
 
-first-requires : tie.Need-first-requires
-first-requires c κs = search needs
-
 count-requires : tie.Need-count-requires
 count-requires c κs = search needs
 
@@ -22,12 +20,9 @@ judge-requires : tie.Need-judge-requires
 judge-requires c κs = search needs
 
 returns-2 : tie.Need-returns-2
-unfolding replyOf
+unfolding first-edition replyOf
 returns-2 c =
-    rw (eq-eqb _ 2500 (c .before .before .before .before .if1 .left), eq-eqb _ 1 (c .before .before .before .if2 .taken), ← c .before .count .ensures, ← c .before .before .first .ensures) (c .judge .ensures)
-
-second-requires : tie.Need-second-requires
-second-requires c κs = search needs
+    rw (eq-eqb _ 2500 (c .before .before .before .if1 .left), eq-eqb _ 1 (c .before .before .if2 .taken), ← c .before .count .ensures) (c .judge .ensures)
 
 count-requires-2 : tie.Need-count-requires-2
 count-requires-2 c κs = search needs
@@ -36,9 +31,9 @@ judge-requires-2 : tie.Need-judge-requires-2
 judge-requires-2 c κs = search needs
 
 returns-3 : tie.Need-returns-3
-unfolding replyOf
+unfolding second-edition replyOf
 returns-3 c =
-    rw (eq-eqb _ 2500 (c .before .before .before .before .before .if1 .left), ne-eqb _ 1 (c .before .before .before .before .if2 .left), eq-eqb _ 2 (c .before .before .before .if3 .taken), ← c .before .count2 .ensures, ← c .before .before .second .ensures) (c .judge2 .ensures)
+    rw (eq-eqb _ 2500 (c .before .before .before .before .if1 .left), ne-eqb _ 1 (c .before .before .before .if2 .left), eq-eqb _ 2 (c .before .before .if3 .taken), ← c .before .count2 .ensures) (c .judge2 .ensures)
 
 refuse-requires-2 : tie.Need-refuse-requires-2
 refuse-requires-2 c κs = search needs
@@ -54,11 +49,9 @@ power-up-spec =
     (tie.spec
     refuse-requires
     returns
-    first-requires
     count-requires
     judge-requires
     returns-2
-    second-requires
     count-requires-2
     judge-requires-2
     returns-3

@@ -8,7 +8,7 @@ use borrow.Author.Tests.{eqb-true, eqb-false}
 use lib.ListN.{length, getD, length-set}
 use lib.Seq.{getD-set-same, getD-set-other}
 use Rattle.powerup.specs.Steps.{pokerOf}
-use Rattle.powerup.proofs.Lists.{either, written-16}
+use Rattle.powerup.proofs.Lists.{either, numbers-16, written}
 use Rattle.powerup.proofs.count.poker_counts.Statement.{statement}
 use Rattle.powerup.proofs.count.poker_counts.Tie as tie
 
@@ -69,7 +69,7 @@ returns : tie.Need-returns Inv-loop μ-loop
 unfolding pokerOf
 returns c =
     let pairs = c .before .before .args .t1 in
-    written-16 (λ v. getD pairs v 0 + getD pairs (16 + v) 0) (c .before .loop .poker) (c .before .loop .inv .2) (λ v h. c .before .loop .inv .3 v (omega arith))
+    written numbers-16 (λ v. getD pairs v 0 + getD pairs (16 + v) 0) (c .before .loop .poker) (c .before .loop .inv .2) (λ v h. c .before .loop .inv .3 v (omega arith))
 
 pub poker-counts-spec : {M : Type 1} → statement M
 poker-counts-spec =

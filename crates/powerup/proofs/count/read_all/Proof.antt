@@ -1,5 +1,5 @@
--- `powerup::count::read_all` meets its contract. The loop's invariant: what is counted, with what the bytes that are left bring, is what all bytes
--- bring. Assumes nothing.
+-- `powerup::count::read_all` meets its contract. The loop's invariant: the counts so far plus the counts of the remaining bytes are the counts of all
+-- bytes (`Counting`). Assumes nothing.
 use native.Mathlib.Omega.{arith}
 use borrow.Author.Needs.{needs}
 use Prim.Native.Nat.{ℕ, suc, _+_, _*_, _/_, _%_, _≤_, _<_, _-_}
@@ -7,7 +7,7 @@ use mathlib.Core.Path.{_≡_}
 use mathlib.Core.List.{[], _++_}
 use lib.ListN.{length, getD, drop, drop-of-length-le}
 use Rattle.powerup.specs.Bits.{bits}
-use Rattle.powerup.specs.Steps.{halfBits, raised}
+use Rattle.powerup.specs.Steps.{halfBits}
 use Rattle.powerup.proofs.Counting.{Counting, step, ready, bits-left, none-read, all-read}
 use Rattle.powerup.proofs.count.read_all.Statement.{statement}
 use Rattle.powerup.proofs.count.read_all.Tie as tie
@@ -31,7 +31,7 @@ wide-requires c κs = search needs
 abbrev byte : tie.In-loop Inv-loop μ-loop → ℕ
 byte c = getD (c .before .before .before .args .bytes .now) (c .before .loop .i) 0
 
--- before its high half, and after it
+-- `Counting` before the byte's high half is read (`at-high`), and before its low half (`at-low`)
 at-high :
     (c : tie.In-loop Inv-loop μ-loop) → byte c < 256
     → Counting (bits (c .before .before .before .args .bytes .now))
@@ -81,28 +81,25 @@ loop-again c =
 place-requires : tie.Need-place-requires Inv-loop μ-loop
 place-requires c κs = c .before .loop .inv .2 .bit
 
-mul-ended : tie.Need-mul-ended Inv-loop μ-loop
-mul-ended c = omega arith
+slice-aggregate-raise : tie.Need-slice-aggregate-raise Inv-loop μ-loop
+slice-aggregate-raise c = omega (arith, c .before .before .before .loop .inv .2 .ended-size)
 
-array-read-ended : tie.Need-array-read-ended Inv-loop μ-loop
-array-read-ended c = omega (arith, c .before .before .loop .inv .2 .bit)
-
-add-ended : tie.Need-add-ended Inv-loop μ-loop
-add-ended c = omega (arith, c .before .before .loop .inv .2 .few-ended (c .place .result))
-
-array-write-ended : tie.Need-array-write-ended Inv-loop μ-loop
-array-write-ended c = omega (arith, c .before .before .loop .inv .2 .bit)
+raise-requires : tie.Need-raise-requires Inv-loop μ-loop
+raise-requires c κs =
+    let inv = c .before .before .before .loop .inv in
+    (omega (arith, inv .2 .bit, inv .2 .ended-size), λ i. omega (arith, inv .2 .few-ended i))
 
 larger-requires : tie.Need-larger-requires Inv-loop μ-loop
 larger-requires c κs = search needs
 
 returns : tie.Need-returns Inv-loop μ-loop
-unfolding raised bits
+unfolding bits
 returns c =
-    let l = c .before .before .before in
+    let p = c .before .before .before .before in
+    let l = p .before .before in
     let bytes = l .before .before .args .bytes .now in
     let none : drop (l .loop .i) bytes ≡ [] = drop-of-length-le bytes {i = l .loop .i} (omega arith) in
-    rw (c .larger .ensures, c .before .place .ensures) (all-read (rw none at (l .loop .inv .2)) (omega arith))
+    rw (c .larger .ensures, c .before .before .raise .ensures, p .place .ensures) (all-read (rw none at (l .loop .inv .2)) (omega arith))
 
 pub read-all-spec : {M : Type 1} → statement M
 read-all-spec =
@@ -119,9 +116,7 @@ read-all-spec =
     loop-less
     loop-again
     place-requires
-    mul-ended
-    array-read-ended
-    add-ended
-    array-write-ended
+    slice-aggregate-raise
+    raise-requires
     larger-requires
     returns)

@@ -1,99 +1,38 @@
 -- `powerup::count::runs_of` meets its contract. Assumes nothing.
-use native.Mathlib.Omega.{arith}
 use borrow.Author.Needs.{needs}
-use Prim.Native.Nat.{_+_}
+use Rattle.powerup.specs.Steps.{runsIn}
+use Rattle.powerup.proofs.Weighing.{light-inside, room}
 use Rattle.powerup.proofs.count.runs_of.Statement.{statement}
 use Rattle.powerup.proofs.count.runs_of.Tie as tie
 
-add-t7 : tie.Need-add-t7
-add-t7 c = search needs
+over-pairs-requires : tie.Need-over-pairs-requires
+over-pairs-requires c κs = let s = c .before .before in light-inside (s .args .bit) 1 (s .pre .0) (s .pre .2 .one)
 
-mul-t8 : tie.Need-mul-t8
-mul-t8 c = search needs
+over-pairs-requires-2 : tie.Need-over-pairs-requires-2
+over-pairs-requires-2 c κs = let s = c .before .before .before in light-inside (s .args .bit) 2 (s .pre .0) (s .pre .2 .two)
 
-array-read-t11 : tie.Need-array-read-t11
-array-read-t11 c = search needs
+over-pairs-requires-3 : tie.Need-over-pairs-requires-3
+over-pairs-requires-3 c κs = let s = c .before .before .before .before in light-inside (s .args .bit) 3 (s .pre .0) (s .pre .2 .three)
 
-add-t12 : tie.Need-add-t12
-add-t12 c = omega (arith, c .pre .4 (c .args .first + 1))
+mul-by-length : tie.Need-mul-by-length
+mul-by-length c = search needs
 
-add-t13 : tie.Need-add-t13
-add-t13 c = search needs
-
-mul-t14 : tie.Need-mul-t14
-mul-t14 c = search needs
-
-array-read-t17 : tie.Need-array-read-t17
-array-read-t17 c = search needs
-
-add-t18 : tie.Need-add-t18
-add-t18 c = omega (arith, c .pre .4 (c .args .first + 2))
-
-add-t19 : tie.Need-add-t19
-add-t19 c = search needs
-
-mul-t20 : tie.Need-mul-t20
-mul-t20 c = search needs
-
-array-read-t23 : tie.Need-array-read-t23
-array-read-t23 c = search needs
-
-add-t24 : tie.Need-add-t24
-add-t24 c = omega (arith, c .pre .4 (c .args .first + 3))
-
-add-t25 : tie.Need-add-t25
-add-t25 c = search needs
-
-mul-t26 : tie.Need-mul-t26
-mul-t26 c = search needs
-
-array-read-t29 : tie.Need-array-read-t29
-array-read-t29 c = search needs
-
-add-t30 : tie.Need-add-t30
-add-t30 c = search needs
-
-mul-t31 : tie.Need-mul-t31
-mul-t31 c = search needs
-
-array-read-t34 : tie.Need-array-read-t34
-array-read-t34 c = search needs
-
-add-t35 : tie.Need-add-t35
-add-t35 c = search needs
-
-mul-t36 : tie.Need-mul-t36
-mul-t36 c = search needs
-
-array-read-t39 : tie.Need-array-read-t39
-array-read-t39 c = search needs
+by-length-requires : tie.Need-by-length-requires
+by-length-requires c κs =
+    let s = c .before .before .before .before .before in
+    room (s .args .bit) _ _ _ (s .pre .0) (s .pre .1) (c .before .before .over-pairs .ensures .1) (c .before .over-pairs2 .ensures .1) (c .over-pairs3 .ensures .1)
 
 returns : tie.Need-returns
-returns c = search needs
+unfolding runsIn
+returns c = cc
 
 pub runs-of-spec : {M : Type 1} → statement M
 runs-of-spec =
     tie.close
     (tie.spec
-    add-t7
-    mul-t8
-    array-read-t11
-    add-t12
-    add-t13
-    mul-t14
-    array-read-t17
-    add-t18
-    add-t19
-    mul-t20
-    array-read-t23
-    add-t24
-    add-t25
-    mul-t26
-    array-read-t29
-    add-t30
-    mul-t31
-    array-read-t34
-    add-t35
-    mul-t36
-    array-read-t39
+    over-pairs-requires
+    over-pairs-requires-2
+    over-pairs-requires-3
+    mul-by-length
+    by-length-requires
     returns)

@@ -3,11 +3,10 @@ use native.Mathlib.Omega.{arith}
 use Prim.Native.Nat.{_+_, _*_, _≤_, _-_}
 use mathlib.Core.Path.{_≡_}
 use mathlib.Core.List.{[]}
-use native.Mathlib.Nat.{mul-le-mul}
 use native.Mathlib.Numerals.{add-one}
 use lib.ListN.{length, drop, drop-of-length-le}
 use Rattle.powerup.specs.Steps.{dot}
-use Rattle.powerup.proofs.Lists.{dot-next}
+use Rattle.powerup.proofs.Lists.{product-few, dot-next}
 use Rattle.powerup.proofs.count.weighed.Statement.{statement}
 use Rattle.powerup.proofs.count.weighed.Tie as tie
 
@@ -33,15 +32,10 @@ shared-slice-read-sum-2 : tie.Need-shared-slice-read-sum-2 Inv-loop μ-loop
 shared-slice-read-sum-2 c = omega arith
 
 mul-sum-3 : tie.Need-mul-sum-3 Inv-loop μ-loop
-mul-sum-3 c =
-    let a = c .before .before .before .before .args in
-    let i = c .before .before .before .loop .i in
-    omega (arith, mul-le-mul (c .before .before .before .before .pre .few i) (c .before .before .before .before .pre .light i))
+mul-sum-3 c = omega (arith, product-few (c .before .before .before .before .pre) (c .before .before .before .loop .i))
 
 add-sum : tie.Need-add-sum Inv-loop μ-loop
-add-sum c =
-    let i = c .before .before .before .loop .i in
-    omega (arith, mul-le-mul (c .before .before .before .before .pre .few i) (c .before .before .before .before .pre .light i))
+add-sum c = omega (arith, product-few (c .before .before .before .before .pre) (c .before .before .before .loop .i))
 
 add-i : tie.Need-add-i Inv-loop μ-loop
 add-i c = omega arith
@@ -56,7 +50,7 @@ loop-again c =
     rw add-one
     (omega (
       arith,
-      mul-le-mul (c .before .before .before .before .pre .few i) (c .before .before .before .before .pre .light i),
+      product-few (c .before .before .before .before .pre) i,
       dot-next (a .counts .now) (a .weights .now) i (omega arith) (omega arith),
     ))
 

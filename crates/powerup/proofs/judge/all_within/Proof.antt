@@ -1,4 +1,4 @@
--- `powerup::judge::all_within` meets its contract: what is left to judge decides. Assumes nothing.
+-- `powerup::judge::all_within` meets its contract. The loop's invariant: the counts from place i on decide. Assumes nothing.
 use native.Mathlib.Omega.{arith}
 use borrow.Author.Needs.{needs}
 use Prim.Native.Nat.{_≤_, _-_}
