@@ -1,18 +1,16 @@
--- Each test of the code is one of the definition's, in the same order.
+-- The code makes the definition's tests, in the same order.
 use Prim.Native.Nat.{ℕ, _≤_, _<_}
 use mathlib.Core.Path.{_≡_, refl, sym, _∙_}
-use mathlib.Core.Bool.{Bool, true, false, _||_}
+use mathlib.Core.Bool.{Bool, true, false, cond, _||_}
 use native.Mathlib.Omega.{arith}
 use lib.Dec.{eqb, ltb}
 use borrow.Author.Needs.{needs}
 use borrow.Author.Tests.{lt-ltb, le-ltb, ltb-false}
-use Rattle.tray.specs.Seat.{wrong-width, verdict}
-use Rattle.tray.proofs.Checks.{at-most-32, Sound, sound, window-small}
+use Rattle.tray.specs.declared.Verdict.the-variants.{Counted, Damage}
+use Rattle.tray.specs.Seat.{wrong-width, damaged, window, repetitionAlarm, proportionAlarm, verdict}
+use Rattle.tray.proofs.Checks.{at-most-32, Sound, sound, window-bounds}
 use Rattle.tray.proofs.Seat.verdict.Statement.{statement}
 use Rattle.tray.proofs.Seat.verdict.Tie as tie
-
-wrong-width-requires : tie.Need-wrong-width-requires
-wrong-width-requires c κs = search needs
 
 returns : tie.Need-returns
 unfolding verdict
@@ -39,9 +37,6 @@ returns-3 c =
       le-ltb _ _ (c .if3 .taken),
     )
 
-low-cutoff-requires : tie.Need-low-cutoff-requires
-low-cutoff-requires c κs = search needs
-
 returns-4 : tie.Need-returns-4
 unfolding verdict
 returns-4 c =
@@ -54,51 +49,47 @@ returns-4 c =
       sym (c .before .low-cutoff .ensures) ∙ c .if4 .taken,
     )
 
-window-requires : tie.Need-window-requires
-window-requires c κs = search needs
+-- the arguments, after the tests of the sample and the seat
+abbrev start : tie.Else4 → tie.Start
+start c = let narrow = c .before .before .before in narrow .before .before .before .before
 
-damaged-requires : tie.Need-damaged-requires
-damaged-requires c κs = search needs
-
-returns-5 : tie.Need-returns-5
+-- After these tests the record decides.
+by-record : (c : tie.Else4)
+    → let r = start c .args .self in
+    let s = start c .args .sample in
+    verdict (ltb (start c .args .seat) 64) r s
+    ≡ cond (damaged (window (s .width)) r) Damage (Counted (repetitionAlarm r (s .repetition) (s .word)) (proportionAlarm r (s .proportion) (s .word)))
 unfolding verdict
-returns-5 c =
-    let h = c .before .before .before in
-    let g = h .before .before in
+by-record c =
+    let g = c .before .before in
     let f = g .before in
     let e = f .before .before in
     simp (
       sym (e .before .wrong-width .ensures) ∙ e .if1 .left,
       sym (f .before .too-wide .ensures) ∙ f .if2 .left,
       lt-ltb _ _ (g .if3 .left),
-      sym (h .before .low-cutoff .ensures) ∙ h .if4 .left,
-      ← c .before .before .window .ensures,
-      sym (c .before .damaged .ensures) ∙ c .if5 .taken,
+      sym (c .before .low-cutoff .ensures) ∙ c .if4 .left,
     )
 
-repetition-alarm-requires : tie.Need-repetition-alarm-requires
-repetition-alarm-requires c κs = search needs
+returns-5 : tie.Need-returns-5
+returns-5 c =
+    let w = c .before .before in
+    simp (by-record (w .before), ← w .window .ensures, sym (c .before .damaged .ensures) ∙ c .if5 .taken)
 
 proportion-alarm-requires : tie.Need-proportion-alarm-requires
 proportion-alarm-requires c κs =
     let d = c .before .before in
+    let w = d .before in
     let r = sound _ _ (sym (d .damaged .ensures) ∙ c .before .if5 .left) in
-    omega (arith, r .place, r .count, d .before .window .ensures, window-small (d .before .before .before .before .before .before .before .before .before .args .sample .width))
+    omega (arith, r .place, r .count, w .window .ensures, window-bounds (start (w .before) .args .sample .width) .1)
 
 returns-6 : tie.Need-returns-6
-unfolding verdict
 returns-6 c =
     let i = c .before .before in
-    let h = i .before .before .before in
-    let g = h .before .before in
-    let f = g .before in
-    let e = f .before .before in
+    let w = i .before .before in
     simp (
-      sym (e .before .wrong-width .ensures) ∙ e .if1 .left,
-      sym (f .before .too-wide .ensures) ∙ f .if2 .left,
-      lt-ltb _ _ (g .if3 .left),
-      sym (h .before .low-cutoff .ensures) ∙ h .if4 .left,
-      ← i .before .before .window .ensures,
+      by-record (w .before),
+      ← w .window .ensures,
       sym (i .before .damaged .ensures) ∙ i .if5 .left,
       c .before .repetition-alarm .ensures,
       c .proportion-alarm .ensures,
@@ -108,16 +99,16 @@ pub verdict-spec : {M : Type 1} → statement M
 verdict-spec =
     tie.close
     (tie.spec
-    wrong-width-requires
+    (λ c κs. search needs)
     returns
     too-wide-requires
     returns-2
     returns-3
-    low-cutoff-requires
+    (λ c κs. search needs)
     returns-4
-    window-requires
-    damaged-requires
+    (λ c κs. search needs)
+    (λ c κs. search needs)
     returns-5
-    repetition-alarm-requires
+    (λ c κs. search needs)
     proportion-alarm-requires
     returns-6)
