@@ -1,12 +1,12 @@
 -- The counts of specs/Standard are those of the standard's loops, and its windows follow one another without gap or overlap. Assumes nothing.
-use Prim.Native.Nat.{ℕ, zero, suc, _+_, _-_, _%_, _≤_, _<_}
+use Prim.Native.Nat.{ℕ, suc, _+_, _-_, _%_, _≤_, _<_}
 use mathlib.Core.Path.{_≡_, refl, sym, ap, _∙_}
 use mathlib.Core.Bool.{Bool, true, false, cond}
 use mathlib.Core.List.{List, [], _∷_, _++_, append-assoc, append-nil}
 use native.Mathlib.Omega.{arith}
 use native.Mathlib.Nat.{mod-le, mod-eq-of-lt, add-mod-left, sub-self}
 use lib.Dec.{eqb}
-use lib.ListN.{length, drop, length-append}
+use lib.ListN.{length, length-append}
 use lib.Seq.{drop-append-add}
 use borrow.Author.Tests.{eqb-true}
 use Rattle.tray.specs.Standard.{endingRun, presentWindow, occurrences}

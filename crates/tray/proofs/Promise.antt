@@ -15,7 +15,6 @@ use Rattle.tray.specs.declared.Sample.{Sample}
 use Rattle.tray.specs.declared.Verdict.{Verdict}
 use Rattle.tray.specs.declared.Verdict.the-variants.{Counted, WrongWidth, WordTooWide, NoSuchSeat, LowCutoff}
 use Rattle.tray.specs.Seat.{fresh, top, window, wrong-width, too-wide, low-cutoff, repetitionAlarm, proportionAlarm, counted, verdict, after, isCounted}
-use Rattle.tray.specs.Standard.{repetitionTest, proportionTest}
 use Rattle.tray.specs.Tray.{isPresent, replyTo, trayAfter}
 use Rattle.tray.specs.Sequence.{Arrival, sampleOf, replies, samplesOf, standard, standards}
 use Rattle.tray.proofs.Checks.{both, window-bounds}

@@ -1,9 +1,8 @@
 -- `capture::agreeing_blocks` meets its contract. The loop's invariant: the first n bytes agree. Assumes nothing.
-use Prim.Native.Nat.{_≤_, _+_, _-_, min}
+use Prim.Native.Nat.{_≤_, _+_, _-_}
 use native.Mathlib.Omega.{arith}
-use mathlib.Core.Path.{_≡_, sym, _∙_}
+use mathlib.Core.Path.{sym, _∙_}
 use borrow.Author.Tests.{leb-true, leb-false, not-true, not-false}
-use lib.ListN.{length}
 use Rattle.capture.specs.Capture.{agreeing}
 use Rattle.capture.proofs.Agreeing.{within-both}
 use Rattle.capture.proofs.agreeing_blocks.Statement.{statement}

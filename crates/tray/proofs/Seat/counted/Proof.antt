@@ -1,6 +1,6 @@
 -- After a window's last sample the window's fields are 0. After any other sample they count it.
 use Prim.Native.Nat.{suc}
-use mathlib.Core.Path.{_≡_, refl, sym, _∙_}
+use mathlib.Core.Path.{_≡_}
 use native.Mathlib.Omega.{arith}
 use native.Mathlib.Numerals.{add-one}
 use borrow.Author.Needs.{needs}

@@ -1,5 +1,5 @@
 -- A repeat raises the run by 1, unless it is at its top. Any other word starts a run of 1.
-use Prim.Native.Nat.{suc, _≤_, min}
+use Prim.Native.Nat.{suc, min}
 use mathlib.Core.Path.{_≡_, sym, _∙_}
 use native.Mathlib.Omega.{arith}
 use borrow.Author.Needs.{needs}

@@ -1,11 +1,10 @@
 -- The code makes the definition's tests, in the same order.
-use Prim.Native.Nat.{ℕ, _≤_, _<_}
-use mathlib.Core.Path.{_≡_, refl, sym, _∙_}
-use mathlib.Core.Bool.{Bool, true, false, cond, _||_}
+use mathlib.Core.Path.{_≡_, sym, _∙_}
+use mathlib.Core.Bool.{cond}
 use native.Mathlib.Omega.{arith}
-use lib.Dec.{eqb, ltb}
+use lib.Dec.{ltb}
 use borrow.Author.Needs.{needs}
-use borrow.Author.Tests.{lt-ltb, le-ltb, ltb-false}
+use borrow.Author.Tests.{lt-ltb, le-ltb}
 use Rattle.tray.specs.declared.Verdict.the-variants.{Counted, Damage}
 use Rattle.tray.specs.Seat.{wrong-width, damaged, window, repetitionAlarm, proportionAlarm, verdict}
 use Rattle.tray.proofs.Checks.{at-most-32, Sound, sound, window-bounds}
