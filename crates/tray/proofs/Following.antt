@@ -16,13 +16,13 @@ use Rattle.tray.specs.Standard.{endingRun, repetitionTest, presentWindow
 use Rattle.tray.proofs.Checks.{run-decides}
 use Rattle.tray.proofs.Windows.{same, eqb-sym, length-snoc, endingRun-next, occurrences-snoc, occurrences-few, window-length, window-goes-on, window-ends}
 
--- The record's last three fields are what a window with the samples w has.
+-- The record's last three fields fit a window that has had the samples w.
 pub record InWindow (w : List ℕ) (r : Seat) : Type 0 where
   pub place : r .place ≡ length w
   pub word : 0 < length w → r .word ≡ getD w 0 0
   pub count : r .count ≡ occurrences (getD w 0 0) w
 
--- The record follows the samples `past`.
+-- The record follows the samples `past`. `next`: `repeats` says which words would make the last run longer.
 pub record Follows (size : ℕ) (past : List ℕ) (r : Seat) : Type 0 where
   pub run : r .run ≡ min (endingRun past) top
   pub next : (k : ℕ) → endingRun (past ++ k ∷ []) ≡ cond (repeats r k) (suc (endingRun past)) 1

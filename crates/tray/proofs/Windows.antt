@@ -22,7 +22,7 @@ eqb-sym a b = by-cases (eqb a b) refl
     by-cases true e = rw (e, eq-eqb b a (sym (eqb-true a b e)))
     by-cases false e = rw (e, ne-eqb b a (λ q. eqb-false a b e (sym q)))
 
--- Two steps that each may be taken or not commute if the steps do.
+-- Two optional steps commute if the steps do.
 pub steps-commute : {A : Type 0} (t u : Bool) (f g : A → A) (x : A) → f (g x) ≡ g (f x)
     → cond t (f (cond u (g x) x)) (cond u (g x) x) ≡ cond u (g (cond t (f x) x)) (cond t (f x) x)
 steps-commute true true f g x commute = commute
@@ -85,7 +85,7 @@ occurrences-few a (x ∷ xs) = by-cases (eqb x a) refl (occurrences-few a xs)
     by-cases true e few = rw e (omega arith)
     by-cases false e few = rw e (omega arith)
 
--- the present window
+-- The present window grows by a sample until it is full, and then a new one begins.
 module _ (size : ℕ) (past : List ℕ) where
   pub window-length : length (presentWindow size past) ≡ length past % size
   unfolding presentWindow

@@ -22,7 +22,7 @@ pub struct Seat {
     pub count: u32,
 }
 
-// "The word width and the cutoffs are handed in with each sample". `repetition` and `proportion` are the cutoffs of these tests.
+// "The word width and the cutoffs are handed in with each sample". `repetition` and `proportion` are the cutoffs of the two tests.
 pub struct Sample {
     pub width: u32,
     pub word: u32,

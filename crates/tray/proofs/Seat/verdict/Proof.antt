@@ -1,72 +1,65 @@
 -- The code makes the definition's tests, in the same order.
 use mathlib.Core.Path.{_≡_, sym, _∙_}
-use mathlib.Core.Bool.{cond}
+use mathlib.Core.Bool.{false, cond}
 use native.Mathlib.Omega.{arith}
 use lib.Dec.{ltb}
 use borrow.Author.Needs.{needs}
 use borrow.Author.Tests.{lt-ltb, le-ltb}
 use Rattle.tray.specs.declared.Verdict.the-variants.{Counted, Damage}
-use Rattle.tray.specs.Seat.{wrong-width, damaged, window, repetitionAlarm, proportionAlarm, verdict}
+use Rattle.tray.specs.Seat.{wrong-width, too-wide, damaged, window, repetitionAlarm, proportionAlarm, verdict}
 use Rattle.tray.proofs.Checks.{at-most-32, Sound, sound, window-bounds}
 use Rattle.tray.proofs.Seat.verdict.Statement.{statement}
 use Rattle.tray.proofs.Seat.verdict.Tie as tie
+
+-- the start of the function, from the place after the test of the word
+abbrev start : tie.Else2 → tie.Start
+start c = c .before .before .before .before
+
+width-passed : (c : tie.Else1) → wrong-width (c .before .before .args .sample .width) ≡ false
+width-passed c = sym (c .before .wrong-width .ensures) ∙ c .if1 .left
+
+word-passed : (c : tie.Else2) → too-wide (start c .args .sample .width) (start c .args .sample .word) ≡ false
+word-passed c = sym (c .before .too-wide .ensures) ∙ c .if2 .left
 
 returns : tie.Need-returns
 unfolding verdict
 returns c = simp (sym (c .before .wrong-width .ensures) ∙ c .if1 .taken)
 
-too-wide-requires : tie.Need-too-wide-requires
-too-wide-requires c κs = at-most-32 _ (sym (c .before .wrong-width .ensures) ∙ c .if1 .left)
-
 returns-2 : tie.Need-returns-2
 unfolding verdict
-returns-2 c =
-    simp (
-      sym (c .before .before .before .wrong-width .ensures) ∙ c .before .before .if1 .left,
-      sym (c .before .too-wide .ensures) ∙ c .if2 .taken,
-    )
+returns-2 c = simp (width-passed (c .before .before), sym (c .before .too-wide .ensures) ∙ c .if2 .taken)
 
 returns-3 : tie.Need-returns-3
 unfolding verdict
-returns-3 c =
-    let e = c .before .before .before in
-    simp (
-      sym (e .before .wrong-width .ensures) ∙ e .if1 .left,
-      sym (c .before .before .too-wide .ensures) ∙ c .before .if2 .left,
-      le-ltb _ _ (c .if3 .taken),
-    )
+returns-3 c = simp (width-passed (c .before .before .before), word-passed (c .before), le-ltb _ _ (c .if3 .taken))
 
 returns-4 : tie.Need-returns-4
 unfolding verdict
 returns-4 c =
-    let f = c .before .before .before in
-    let e = f .before .before in
+    let seat = c .before .before in
+    let word = seat .before in
     simp (
-      sym (e .before .wrong-width .ensures) ∙ e .if1 .left,
-      sym (f .before .too-wide .ensures) ∙ f .if2 .left,
-      lt-ltb _ _ (c .before .before .if3 .left),
+      width-passed (word .before .before),
+      word-passed word,
+      lt-ltb _ _ (seat .if3 .left),
       sym (c .before .low-cutoff .ensures) ∙ c .if4 .taken,
     )
 
--- the arguments, after the tests of the sample and the seat
-abbrev start : tie.Else4 → tie.Start
-start c = let narrow = c .before .before .before in narrow .before .before .before .before
-
--- After these tests the record decides.
+-- After the tests of the sample and the seat, the record decides.
 by-record : (c : tie.Else4)
-    → let r = start c .args .self in
-    let s = start c .args .sample in
-    verdict (ltb (start c .args .seat) 64) r s
+    → let a = start (c .before .before .before) .args in
+    let r = a .self in
+    let s = a .sample in
+    verdict (ltb (a .seat) 64) r s
     ≡ cond (damaged (window (s .width)) r) Damage (Counted (repetitionAlarm r (s .repetition) (s .word)) (proportionAlarm r (s .proportion) (s .word)))
 unfolding verdict
 by-record c =
-    let g = c .before .before in
-    let f = g .before in
-    let e = f .before .before in
+    let seat = c .before .before in
+    let word = seat .before in
     simp (
-      sym (e .before .wrong-width .ensures) ∙ e .if1 .left,
-      sym (f .before .too-wide .ensures) ∙ f .if2 .left,
-      lt-ltb _ _ (g .if3 .left),
+      width-passed (word .before .before),
+      word-passed word,
+      lt-ltb _ _ (seat .if3 .left),
       sym (c .before .low-cutoff .ensures) ∙ c .if4 .left,
     )
 
@@ -80,7 +73,7 @@ proportion-alarm-requires c κs =
     let d = c .before .before in
     let w = d .before in
     let r = sound _ _ (sym (d .damaged .ensures) ∙ c .before .if5 .left) in
-    omega (arith, r .place, r .count, w .window .ensures, window-bounds (start (w .before) .args .sample .width) .1)
+    omega (arith, r .place, r .count, w .window .ensures, window-bounds (start (w .before .before .before .before) .args .sample .width) .1)
 
 returns-6 : tie.Need-returns-6
 returns-6 c =
@@ -100,7 +93,7 @@ verdict-spec =
     (tie.spec
     (λ c κs. search needs)
     returns
-    too-wide-requires
+    (λ c κs. at-most-32 _ (width-passed c))
     returns-2
     returns-3
     (λ c κs. search needs)
