@@ -16,16 +16,16 @@ true-or-false true = inl refl
 true-or-false false = inr refl
 
 -- The first n + 1 bytes agree exactly if the first n bytes agree and byte n agrees.
-pub one-more : (new earlier : List ℕ) (n : ℕ) → n < min (length new) (length earlier) → leb (suc n) (agreeing new earlier) ≡ leb n (agreeing new earlier) && eqb (getD new n 0) (getD earlier n 0)
+pub agreeing-next : (new earlier : List ℕ) (n : ℕ) → n < min (length new) (length earlier) → leb (suc n) (agreeing new earlier) ≡ leb n (agreeing new earlier) && eqb (getD new n 0) (getD earlier n 0)
 unfolding agreeing
-one-more [] earlier n h = absurd (omega arith)
-one-more (b ∷ new) [] n h = absurd (omega arith)
-one-more (b ∷ new) (e ∷ earlier) zero h =
+agreeing-next [] earlier n h = absurd (omega arith)
+agreeing-next (b ∷ new) [] n h = absurd (omega arith)
+agreeing-next (b ∷ new) (e ∷ earlier) zero h =
     ⊎-elim (λ t. rw (t, le-leb 1 (suc (agreeing new earlier)) (omega arith), le-leb 0 (suc (agreeing new earlier)) (omega arith)))
     (λ f. rw f)
     (true-or-false (eqb b e))
-one-more (b ∷ new) (e ∷ earlier) (suc n) h =
-    ⊎-elim (λ t. rw t (rw (compare·suc-suc (suc n) (agreeing new earlier), compare·suc-suc n (agreeing new earlier)) (one-more new earlier n (omega arith))))
+agreeing-next (b ∷ new) (e ∷ earlier) (suc n) h =
+    ⊎-elim (λ t. rw t (rw (compare·suc-suc (suc n) (agreeing new earlier), compare·suc-suc n (agreeing new earlier)) (agreeing-next new earlier n (omega arith))))
     (λ f. rw f (rw (lt-leb (suc (suc n)) 0 (omega arith), lt-leb (suc n) 0 (omega arith))))
     (true-or-false (eqb b e))
 
@@ -33,14 +33,14 @@ module _ (new earlier : List ℕ) (n : ℕ) (within : n < min (length new) (leng
   -- If byte n differs, at most n bytes agree.
   pub at-a-difference : (getD new n 0 ≡ getD earlier n 0 → ⊥) → agreeing new earlier ≤ n
   at-a-difference h =
-      ⊎-elim (λ t. ltb-false n (agreeing new earlier) (rw (one-more new earlier n within, ne-eqb (getD new n 0) (getD earlier n 0) h) (rw t)))
+      ⊎-elim (λ t. ltb-false n (agreeing new earlier) (rw (agreeing-next new earlier n within, ne-eqb (getD new n 0) (getD earlier n 0) h) (rw t)))
       (λ f. omega (arith, leb-false n (agreeing new earlier) f))
       (true-or-false (leb n (agreeing new earlier)))
 
   -- If the first n bytes and byte n agree, more than n bytes agree.
   pub at-an-agreement : n ≤ agreeing new earlier → getD new n 0 ≡ getD earlier n 0 → n < agreeing new earlier
   at-an-agreement so-far h =
-      ltb-true n (agreeing new earlier) (rw (one-more new earlier n within, le-leb n (agreeing new earlier) so-far, eq-eqb (getD new n 0) (getD earlier n 0) h))
+      ltb-true n (agreeing new earlier) (rw (agreeing-next new earlier n within, le-leb n (agreeing new earlier) so-far, eq-eqb (getD new n 0) (getD earlier n 0) h))
 
 -- At most as many bytes agree as the shorter capture has.
 pub within-both : (new earlier : List ℕ) → agreeing new earlier ≤ min (length new) (length earlier)

@@ -29,13 +29,13 @@ window-bounds width = by-cases (eqb width 1) refl
     by-cases false e = rw e (omega arith, omega arith)
 
 -- a record that is not refused as damaged
-pub record Sound (size : ℕ) (r : Seat) : Type 0 where
+pub record Undamaged (size : ℕ) (r : Seat) : Type 0 where
   pub place : r .place < size
   pub count : r .count ≤ r .place
 
-pub sound : (size : ℕ) (r : Seat) → damaged size r ≡ false → Sound size r
+pub undamaged : (size : ℕ) (r : Seat) → damaged size r ≡ false → Undamaged size r
 unfolding damaged
-sound size r e =
+undamaged size r e =
     let a = neither (leb size (r .place)) (ltb (r .place) (r .count)) e in
     record { place = leb-false size (r .place) (a .0); count = ltb-false (r .place) (r .count) (a .1) }
 
@@ -45,13 +45,13 @@ pub record Passed (present : Bool) (r : Seat) (s : Sample) : Type 0 where
   pub word : too-wide (s .width) (s .word) ≡ false
   pub seat : present ≡ true
   pub cutoffs : low-cutoff (s .repetition) (s .proportion) ≡ false
-  pub whole : damaged (window (s .width)) r ≡ false
+  pub undamaged : damaged (window (s .width)) r ≡ false
 
 pub passed : (present : Bool) (r : Seat) (s : Sample) → isCounted (verdict present r s) ≡ true → Passed present r s
 unfolding verdict
 passed present r s e =
     let all = none-refused (wrong-width (s .width)) (too-wide (s .width) (s .word)) present (low-cutoff (s .repetition) (s .proportion)) (damaged (window (s .width)) r) _ e in
-    record { width = all .0; word = all .1; seat = all .2; cutoffs = all .3; whole = all .4 }
+    record { width = all .0; word = all .1; seat = all .2; cutoffs = all .3; undamaged = all .4 }
   where
     none-refused : (a b p l d : Bool) (v : Verdict)
         → isCounted (cond a WrongWidth (cond b WordTooWide (cond p (cond l LowCutoff (cond d Damage v)) NoSuchSeat))) ≡ true

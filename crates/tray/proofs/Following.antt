@@ -14,7 +14,7 @@ use Rattle.tray.specs.declared.Seat.{Seat}
 use Rattle.tray.specs.Seat.{fresh, top, repeats, runWith, repetitionAlarm, isWindowWord, windowWord, countWith, proportionAlarm, counted, damaged}
 use Rattle.tray.specs.Standard.{endingRun, repetitionTest, presentWindow, occurrences, proportionTest}
 use Rattle.tray.proofs.Checks.{run-decides}
-use Rattle.tray.proofs.Windows.{same, eqb-sym, length-snoc, endingRun-next, occurrences-snoc, occurrences-few, window-length, window-goes-on, window-ends}
+use Rattle.tray.proofs.Windows.{eqb-same, eqb-sym, length-snoc, endingRun-next, occurrences-snoc, occurrences-at-most, window-length, window-goes-on, window-ends}
 
 -- The record's last three fields fit a window that has had the samples w.
 pub record InWindow (w : List ℕ) (r : Seat) : Type 0 where
@@ -52,10 +52,10 @@ unfolding isWindowWord windowWord countWith occurrences
 one-more [] r k is =
     let none : eqb (r .place) 0 ≡ true = eq-eqb (r .place) 0 (is .place) in
     record {
-      lifts = rw (none, same k);
+      lifts = rw (none, eqb-same k);
       place = ap suc (is .place);
       word = rw none;
-      count = rw (none, same k, is .count);
+      count = rw (none, eqb-same k, is .count);
     }
 one-more (x ∷ w) r k is =
     let some : eqb (r .place) 0 ≡ false = ne-eqb (r .place) 0 (λ e. omega (arith, is .place)) in
@@ -74,9 +74,9 @@ leb-min c e fits = by-cases (leb c e) refl
     by-cases true t = let reached : c ≤ min e top = omega (arith, leb-true c e t) in rw (t, le-leb c (min e top) reached)
     by-cases false t = let short : min e top < c = omega (arith, leb-false c e t) in rw (t, lt-leb c (min e top) short)
 
-run-some : (r : Seat) (k : ℕ) → 0 < runWith r k
+run-positive : (r : Seat) (k : ℕ) → 0 < runWith r k
 unfolding runWith
-run-some r k = by-cases (repeats r k) refl
+run-positive r k = by-cases (repeats r k) refl
   where
     by-cases : (t : Bool) → repeats r k ≡ t → 0 < cond (repeats r k) (min (suc (r .run)) top) 1
     by-cases true t = rw t (omega arith)
@@ -93,12 +93,12 @@ counted-run size r k = by-cases (eqb (suc (r .place)) size) refl
 
 module _ (size : ℕ) (some-size : 0 < size) (past : List ℕ) (r : Seat) (follows : Follows size past r) where
   -- It is not damaged.
-  pub is-sound : damaged size r ≡ false
+  pub is-undamaged : damaged size r ≡ false
   unfolding damaged
-  is-sound =
+  is-undamaged =
       let w : List ℕ = presentWindow size past in
       let within : r .place < size = omega (arith, follows .window .place, window-length size past, mod-lt (length past) some-size) in
-      let few : r .count ≤ r .place = omega (arith, follows .window .place, follows .window .count, occurrences-few (getD w 0 0) w) in
+      let few : r .count ≤ r .place = omega (arith, follows .window .place, follows .window .count, occurrences-at-most (getD w 0 0) w) in
       rw (lt-leb size (r .place) within, le-ltb (r .place) (r .count) few)
 
   module _ (k : ℕ) where
@@ -123,7 +123,7 @@ module _ (size : ℕ) (some-size : 0 < size) (past : List ℕ) (r : Seat) (follo
     repeats-is : (j : ℕ) → repeats (counted size r k) j ≡ eqb k j
     unfolding repeats
     repeats-is j =
-        let some : 0 < counted size r k .run = rw (counted-run size r k .1) (run-some r k) in
+        let some : 0 < counted size r k .run = rw (counted-run size r k .1) (run-positive r k) in
         rw (lt-ltb 0 (counted size r k .run) some, counted-run size r k .0)
 
     in-window : InWindow (presentWindow size (past ++ k ∷ [])) (counted size r k)

@@ -11,7 +11,7 @@ use lib.Seq.{drop-append-add}
 use borrow.Author.Tests.{eqb-true}
 use Rattle.tray.specs.Standard.{endingRun, presentWindow, occurrences}
 use Rattle.tray.specs.Procedure.{Counter, repetitionStep, proportionStep, afterAll, startAt}
-use Rattle.tray.proofs.Windows.{same, eqb-sym, endingRun-next}
+use Rattle.tray.proofs.Windows.{eqb-same, eqb-sym, endingRun-next}
 
 -- ---- 4.4.1
 -- From a counter that has the last sample as A and its run as B, the loop keeps it so.
@@ -54,7 +54,7 @@ proportion-from c (X ∷ rest) = by-cases (eqb X (c .A)) refl (proportion-from (
 -- Over the samples of a window, B of the loop is the count of its first sample among them.
 pub proportion-loop : (first : ℕ) (rest : List ℕ) → afterAll proportionStep (startAt first) rest .B ≡ occurrences first (first ∷ rest)
 unfolding occurrences
-proportion-loop first rest = rw (same first) (omega (arith, proportion-from (startAt first) rest))
+proportion-loop first rest = rw (eqb-same first) (omega (arith, proportion-from (startAt first) rest))
 
 -- Samples that do not fill a window are the present window.
 pub begun-window : (size : ℕ) (samples : List ℕ) → length samples < size → presentWindow size samples ≡ samples

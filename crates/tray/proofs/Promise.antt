@@ -18,7 +18,7 @@ use Rattle.tray.specs.Seat.{fresh, top, window, wrong-width, too-wide, l
 use Rattle.tray.specs.Tray.{isPresent, replyTo, trayAfter}
 use Rattle.tray.specs.Sequence.{Arrival, sampleOf, replies, samplesOf, standard, standards}
 use Rattle.tray.proofs.Checks.{both, window-bounds}
-use Rattle.tray.proofs.Following.{Follows, fresh-follows, is-sound, repetition-is, proportion-is, follows-on}
+use Rattle.tray.proofs.Following.{Follows, fresh-follows, is-undamaged, repetition-is, proportion-is, follows-on}
 use Rattle.tray.proofs.Trays.{refusal-leaves, length-stays}
 use Rattle.tray.proofs.Windows.{steps-commute}
 
@@ -80,14 +80,14 @@ module _ (width repetition proportion : ℕ) (fits : repetition ≤ top) where
 
       answer : replyTo tray (a .seat) (sample a) ≡ Counted (repetitionAlarm r repetition (a .word)) (proportionAlarm r proportion (a .word))
       unfolding replyTo verdict
-      answer = rw (right-width, narrow, present, right-cutoffs, is-sound (window width) (window-bounds width .0) (samples (a .seat) before) r its-record)
+      answer = rw (right-width, narrow, present, right-cutoffs, is-undamaged (window width) (window-bounds width .0) (samples (a .seat) before) r its-record)
 
-      left : trayAfter tray (a .seat) (sample a) ≡ set tray (a .seat) (counted (window width) r (a .word))
+      tray-left : trayAfter tray (a .seat) (sample a) ≡ set tray (a .seat) (counted (window width) r (a .word))
       unfolding replyTo trayAfter after
-      left = let is : isCounted (verdict (isPresent tray (a .seat)) r (sample a)) ≡ true = ap isCounted answer in rw is
+      tray-left = let is : isCounted (verdict (isPresent tray (a .seat)) r (sample a)) ≡ true = ap isCounted answer in rw is
 
-      still : (seat : ℕ) → isSeat size seat ≡ true → Follows (window width) (samples seat (before ++ a ∷ [])) (getD (set tray (a .seat) (counted (window width) r (a .word))) seat fresh)
-      still seat is = by-cases (eqb (a .seat) seat) refl
+      still-follows : (seat : ℕ) → isSeat size seat ≡ true → Follows (window width) (samples seat (before ++ a ∷ [])) (getD (set tray (a .seat) (counted (window width) r (a .word))) seat fresh)
+      still-follows seat is = by-cases (eqb (a .seat) seat) refl
         where
           by-cases : (t : Bool) → eqb (a .seat) seat ≡ t → Follows (window width) (samples seat (before ++ a ∷ [])) (getD (set tray (a .seat) (counted (window width) r (a .word))) seat fresh)
           by-cases true t =
@@ -109,7 +109,7 @@ module _ (width repetition proportion : ℕ) (fits : repetition ≤ top) where
           repetition-is (window width) (window-bounds width .0) (samples (a .seat) before) r its-record (a .word) repetition fits,
           proportion-is (window width) (window-bounds width .0) (samples (a .seat) before) r its-record (a .word) proportion,
         );
-        leaves = record { long = length-stays tray (a .seat) (sample a) ∙ follow .long; each = λ wide high seat is. rw left (still seat is) };
+        leaves = record { long = length-stays tray (a .seat) (sample a) ∙ follow .long; each = λ wide high seat is. rw tray-left (still-follows seat is) };
       }
 
     pub one : Correct

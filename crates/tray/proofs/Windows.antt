@@ -12,8 +12,8 @@ use borrow.Author.Tests.{eqb-true, eqb-false, eq-eqb, ne-eqb}
 use Rattle.tray.proofs.Checks.{both}
 use Rattle.tray.specs.Standard.{allEqual, endingRun, presentWindow, occurrences}
 
-pub same : (n : ℕ) → eqb n n ≡ true
-same n = eq-eqb n n refl
+pub eqb-same : (n : ℕ) → eqb n n ≡ true
+eqb-same n = eq-eqb n n refl
 
 pub eqb-sym : (a b : ℕ) → eqb a b ≡ eqb b a
 eqb-sym a b = by-cases (eqb a b) refl
@@ -76,10 +76,10 @@ unfolding occurrences
 occurrences-snoc a [] k = refl
 occurrences-snoc a (x ∷ xs) k = rw (occurrences-snoc a xs k) (steps-commute (eqb x a) (eqb k a) suc suc (occurrences a xs) refl)
 
-pub occurrences-few : (a : ℕ) (xs : List ℕ) → occurrences a xs ≤ length xs
+pub occurrences-at-most : (a : ℕ) (xs : List ℕ) → occurrences a xs ≤ length xs
 unfolding occurrences
-occurrences-few a [] = omega arith
-occurrences-few a (x ∷ xs) = by-cases (eqb x a) refl (occurrences-few a xs)
+occurrences-at-most a [] = omega arith
+occurrences-at-most a (x ∷ xs) = by-cases (eqb x a) refl (occurrences-at-most a xs)
   where
     by-cases : (t : Bool) → eqb x a ≡ t → occurrences a xs ≤ length xs → cond (eqb x a) (suc (occurrences a xs)) (occurrences a xs) ≤ suc (length xs)
     by-cases true e few = rw e (omega arith)

@@ -45,7 +45,7 @@ fn with_digit(number: u32, digit: u8) -> u32 {
 }
 
 fn reply(numbers: [u32; 11])
-    requires { ⌜ length numbers ≡ 11 ⌝ }
+    requires eleven { ⌜ length numbers ≡ 11 ⌝ }
 {
     let sample = Sample {
         width: numbers[2],

@@ -6,7 +6,7 @@ use mathlib.Core.Path.{_≡_, sym}
 use borrow.Author.Tests.{le-leb}
 use lib.Dec.{leb}
 use Rattle.capture.specs.Capture.{agreeing}
-use Rattle.capture.proofs.Agreeing.{one-more}
+use Rattle.capture.proofs.Agreeing.{agreeing-next}
 use Rattle.capture.proofs.block_agrees.Statement.{statement}
 use Rattle.capture.proofs.block_agrees.Tie as tie
 
@@ -24,7 +24,7 @@ loop-again c =
     let a = c .before .before .before .before .args in
     let l = c .before .before .before .loop in
     let next : a .from + (l .i + 1) ≡ suc (a .from + l .i) = omega arith in
-    (omega arith, rw (l .inv .1, next) (sym (one-more (a .new .now) (a .earlier .now) (a .from + l .i) (omega arith))))
+    (omega arith, rw (l .inv .1, next) (sym (agreeing-next (a .new .now) (a .earlier .now) (a .from + l .i) (omega arith))))
 
 returns : tie.Need-returns Inv-loop μ-loop
 returns c =

@@ -9,7 +9,7 @@ use lib.Dec.{ltb}
 use Rattle.tray.specs.declared.Verdict.{Verdict}
 use Rattle.tray.specs.declared.Verdict.the-variants.{Counted, WrongWidth, WordTooWide, NoSuchSeat, LowCutoff, Damage}
 use Rattle.tray.specs.Seat.{verdict, isCounted, after}
-use Rattle.tray.proofs.Checks.{Passed, passed, Sound, sound, window-bounds}
+use Rattle.tray.proofs.Checks.{Passed, passed, Undamaged, undamaged, window-bounds}
 use Rattle.tray.proofs.Tags.{later}
 use Rattle.tray.proofs.Verdict.{the-type}
 use Rattle.tray.proofs.Seat.after.Statement.{statement}
@@ -28,7 +28,7 @@ counted-requires : tie.Need-counted-requires
 counted-requires c κs =
     let a = c .before .before .before .before .args in
     let is : isCounted (verdict (ltb (a .seat) 64) (a .self) (a .sample)) ≡ true = ap isCounted (sym (c .before .before .before .verdict .ensures) ∙ c .before .enum-told .given .1) in
-    let r = sound _ _ (passed (ltb (a .seat) 64) (a .self) (a .sample) is .whole) in
+    let r = undamaged _ _ (passed (ltb (a .seat) 64) (a .self) (a .sample) is .undamaged) in
     omega (arith, r .place, r .count, window-bounds (a .sample .width) .1)
 
 returns : tie.Need-returns

@@ -7,7 +7,7 @@ use borrow.Author.Needs.{needs}
 use borrow.Author.Tests.{lt-ltb, le-ltb}
 use Rattle.tray.specs.declared.Verdict.the-variants.{Counted, Damage}
 use Rattle.tray.specs.Seat.{wrong-width, too-wide, damaged, window, repetitionAlarm, proportionAlarm, verdict}
-use Rattle.tray.proofs.Checks.{at-most-32, Sound, sound, window-bounds}
+use Rattle.tray.proofs.Checks.{at-most-32, Undamaged, undamaged, window-bounds}
 use Rattle.tray.proofs.Seat.verdict.Statement.{statement}
 use Rattle.tray.proofs.Seat.verdict.Tie as tie
 
@@ -72,7 +72,7 @@ proportion-alarm-requires : tie.Need-proportion-alarm-requires
 proportion-alarm-requires c κs =
     let d = c .before .before in
     let w = d .before in
-    let r = sound _ _ (sym (d .damaged .ensures) ∙ c .before .if5 .left) in
+    let r = undamaged _ _ (sym (d .damaged .ensures) ∙ c .before .if5 .left) in
     omega (arith, r .place, r .count, w .window .ensures, window-bounds (start (w .before .before .before .before) .args .sample .width) .1)
 
 returns-6 : tie.Need-returns-6
