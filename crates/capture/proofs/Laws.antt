@@ -1,4 +1,4 @@
--- The laws of the comparison of two captures: what is returned is one part and no other, and which captures are stale.
+-- Laws of the comparison of two captures: only one part can be returned, and which captures are stale.
 -- Assumes nothing.
 use mathlib.Core.Path.{_≡_, refl, sym, ap, _∙_}
 use mathlib.Core.Bool.{Bool, true, false, _&&_}
@@ -11,34 +11,34 @@ use lib.Dec.{ltb, eqb}
 use lib.ListN.{length, take, length-take}
 use lib.Seq.{take-length, length-take-le}
 use Rattle.capture.specs.Capture.{agreeing, leading, LeadingPart, isStale}
-use Rattle.capture.proofs.Agreeing.{within-both, agree-so-far, agree-no-further}
+use Rattle.capture.proofs.Agreeing.{within-both, agreeing-are-equal, agreeing-longest}
 
--- Any two captures have a part to return, and `leading` computes it.
+-- `leading` computes a part that may be returned, for any two captures.
 pub has-part : (new earlier : List ℕ) → LeadingPart new earlier (leading new earlier)
 unfolding leading
 has-part new earlier =
     let l : length (take (agreeing new earlier) new) ≡ agreeing new earlier = length-take-le (agreeing new earlier) new (omega (arith, within-both new earlier)) in
     record {
       leads = rw l;
-      agrees = rw l (agree-so-far new earlier);
-      longest = λ n h q. omega (arith, l, agree-no-further new earlier n h q);
+      agrees = rw l (agreeing-are-equal new earlier);
+      longest = λ n h q. omega (arith, l, agreeing-longest new earlier n h q);
     }
 
 module _ {new earlier : List ℕ} where
-  no-longer : {p q : List ℕ} → LeadingPart new earlier p → LeadingPart new earlier q → length p ≤ length q
-  no-longer {p} {q} x y =
+  at-most-as-long : {p q : List ℕ} → LeadingPart new earlier p → LeadingPart new earlier q → length p ≤ length q
+  at-most-as-long {p} {q} x y =
       let within : length p ≤ length new = omega (arith, ap length (x .leads), length-take (length p) new) in
       omega (arith, y .longest (length p) within (sym (x .leads) ∙ x .agrees))
 
-  -- Two lengths that may be returned are equal.
+  -- Any two parts that may be returned have the same length.
   pub one-length : {p q : List ℕ} → LeadingPart new earlier p → LeadingPart new earlier q → length p ≡ length q
-  one-length x y = omega (arith, no-longer x y, no-longer y x)
+  one-length x y = omega (arith, at-most-as-long x y, at-most-as-long y x)
 
-  -- Two parts that may be returned are equal.
+  -- Any two parts that may be returned are equal.
   pub one-part : {p q : List ℕ} → LeadingPart new earlier p → LeadingPart new earlier q → p ≡ q
   one-part x y = cc (x .leads, y .leads, one-length x y)
 
-  -- What is returned is what `leading` computes.
+  -- Any part that may be returned is the one that `leading` computes.
   pub no-other : {p : List ℕ} → LeadingPart new earlier p → p ≡ leading new earlier
   no-other x = one-part x (has-part new earlier)
 
@@ -55,7 +55,7 @@ not-empty [] h = absurd (h refl)
 not-empty (b ∷ l) h = omega arith
 
 module _ (new earlier : List ℕ) where
-  -- A capture is stale exactly where it is not empty and the whole of it is returned.
+  -- A capture is stale exactly if it is not empty and the whole of it is returned.
   pub stale-exactly : (isStale new earlier ≡ true) ↔ ((new ≢ []) × (leading new earlier ≡ new))
   unfolding isStale
   stale-exactly = (
@@ -66,7 +66,7 @@ module _ (new earlier : List ℕ) where
     λ h. rw (lt-ltb 0 (length new) (not-empty new (h .0)), eq-eqb (length (leading new earlier)) (length new) (ap length (h .1))),
   )
 
-  -- A capture is stale exactly where it is not empty and the earlier one begins with it.
+  -- A capture is stale exactly if it is not empty and the earlier one begins with it.
   pub stale-begins : (isStale new earlier ≡ true) ↔ ((new ≢ []) × (new ≡ take (length new) earlier))
   stale-begins = (
     λ s. let w = stale-exactly .0 s in (w .0, cc (has-part new earlier .agrees, w .1)),
@@ -78,14 +78,14 @@ module _ (new earlier : List ℕ) where
   longer-fresh h =
       refuted (isStale new earlier) (λ s. omega (arith, ap length (stale-begins .0 s .1), length-take (length new) earlier))
 
-taken : (n : ℕ) (l : List ℕ) → take n l ≡ take (length (take n l)) l
-taken zero l = refl
-taken (suc n) [] = refl
-taken (suc n) (b ∷ l) = cc (taken n l)
+take-by-length : (n : ℕ) (l : List ℕ) → take n l ≡ take (length (take n l)) l
+take-by-length zero l = refl
+take-by-length (suc n) [] = refl
+take-by-length (suc n) (b ∷ l) = cc (take-by-length n l)
 
--- A part of the earlier capture from byte 0 is stale, unless it is empty.
+-- A leading part of the earlier capture is stale, unless it is empty.
 pub part-stale : (n : ℕ) (earlier : List ℕ) → take n earlier ≢ [] → isStale (take n earlier) earlier ≡ true
-part-stale n earlier h = stale-begins (take n earlier) earlier .1 (h, taken n earlier)
+part-stale n earlier h = stale-begins (take n earlier) earlier .1 (h, take-by-length n earlier)
 
 -- A capture compared with itself is stale, unless it is empty.
 pub itself-stale : (new : List ℕ) → new ≢ [] → isStale new new ≡ true

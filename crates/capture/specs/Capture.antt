@@ -1,4 +1,4 @@
--- What the comparison of two captures answers. A capture is the list of its bytes.
+-- The comparison of two captures. A capture is the list of its bytes.
 -- Document 01, "The ways": "The comparison returns that leading part of the new capture which agrees with the earlier capture
 -- from byte 0, as long as possible; it may be empty. A capture is stale if it is not empty and the whole of it is returned."
 use mathlib.Core.Path.{_≡_}
@@ -14,16 +14,16 @@ pub record LeadingPart (new earlier part : List ℕ) : Type 0 where
   pub leads : part ≡ take (length part) new
   -- "which agrees with the earlier capture from byte 0"
   pub agrees : part ≡ take (length part) earlier
-  -- "as long as possible": where the captures agree in their first n bytes, these are in the part
+  -- "as long as possible": if the captures agree in their first n bytes, the part has at least n bytes
   pub longest : (n : ℕ) → n ≤ length new → take n new ≡ take n earlier → n ≤ length part
 
--- how many bytes agree before the first that differs, or before either capture ends
+-- how many bytes agree before the first that differs, or before a capture ends
 unfoldable pub agreeing : List ℕ → List ℕ → ℕ
 agreeing [] earlier = 0
 agreeing (b ∷ new) [] = 0
 agreeing (b ∷ new) (e ∷ earlier) = cond (eqb b e) (suc (agreeing new earlier)) 0
 
--- the one part that is a `LeadingPart`, computed
+-- the only `LeadingPart`, computed
 unfoldable pub leading : List ℕ → List ℕ → List ℕ
 leading new earlier = take (agreeing new earlier) new
 

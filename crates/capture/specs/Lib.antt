@@ -1,1 +1,2 @@
+-- What the contracts of `capture` cite.
 pub mod Capture

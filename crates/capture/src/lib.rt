@@ -1,16 +1,15 @@
-// Tells a new capture from one that the bench had before. This is what lost the laboratory its bet: a generator falls silent, its
-// buffer still holds the bytes of the chip before, and they are taken for its own. So hold each capture against the earlier one
-// before it is tested. `stale` says whether nothing new came, and `leading` shows the bytes that were there already.
+// Compares a new capture with the one before it. When a generator falls silent, its buffer still holds the bytes of the chip before, and
+// the bench takes them for new ones: this lost the laboratory its bet. So compare each capture with the earlier one before testing it.
+// `stale` says whether nothing new came. `leading` returns the bytes that were there already.
 //
-// Document 01, "The ways", the last point; specs/Capture.antt quotes it, and says what each answer is.
+// Document 01, "The ways", the last point. specs/Capture.antt quotes it and defines both answers.
 ghost use mathlib.Core.Path.{_≡_};
 ghost use Prim.Native.Nat.{_+_, _≤_, _<_, min};
 ghost use lib.Dec.{leb};
 ghost use lib.ListN.{length};
 ghost use Rattle.capture.specs.Capture.{agreeing, LeadingPart, isStale};
 
-// The part of `new`, from byte 0, that was in `earlier` already. Each capture is lent for a time of its own: the earlier one may
-// be given up while the part, which belongs to the new one, is still in use.
+// The part of `new`, from byte 0, that was in `earlier` already. It borrows from `new` alone: a caller may give up `earlier` and keep it.
 pub fn leading<'n, 'e>(new: &'n [u8], earlier: &'e [u8]) -> &'n [u8]
     ensures { λ r. ⌜ LeadingPart (now (new .entry)) (now (earlier .entry)) (now r) ⌝ }
 {
@@ -18,7 +17,7 @@ pub fn leading<'n, 'e>(new: &'n [u8], earlier: &'e [u8]) -> &'n [u8]
     &new[0..n]
 }
 
-// Whether `new` is old: it has a byte, and each of its bytes was at the same place in `earlier`.
+// Whether `new` has a byte, and each of its bytes is at the same place in `earlier`.
 pub fn stale(new: &[u8], earlier: &[u8]) -> bool
     ensures { λ r. ⌜ r ≡ isStale (now (new .entry)) (now (earlier .entry)) ⌝ }
 {
@@ -44,8 +43,8 @@ fn count_agreeing(new: &[u8], earlier: &[u8]) -> usize
     n
 }
 
-// How many bytes the blocks of 64 have that agree from byte 0 on, before the first that does not. Fewer than 64 of the agreeing bytes
-// come after them.
+// Compares block by block, 64 bytes each, up to the first block that differs. The result is the number of bytes in the blocks that
+// agree; fewer than 64 more bytes agree after them.
 fn agreeing_blocks(new: &[u8], earlier: &[u8], most: usize) -> usize
     requires shorter { ⌜ most ≡ min (length (now new)) (length (now earlier)) ⌝ }
     ensures agree { λ r. ⌜ r ≤ agreeing (now (new .entry)) (now (earlier .entry)) ⌝ }
@@ -61,7 +60,7 @@ fn agreeing_blocks(new: &[u8], earlier: &[u8], most: usize) -> usize
     n
 }
 
-// Whether the next 64 bytes agree too, where all before them do. It does not stop at a difference, so the compiler can compare
+// Whether the 64 bytes at `from` agree; all bytes before them do. The loop does not stop at a difference, so the compiler can compare
 // sixteen bytes at once.
 fn block_agrees(new: &[u8], earlier: &[u8], from: usize) -> bool
     requires whole { ⌜ from + 64 ≤ min (length (now new)) (length (now earlier)) ⌝ }

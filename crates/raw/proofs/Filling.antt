@@ -1,4 +1,4 @@
--- Laws of two loops that write a list from the front: one copies another list, one writes the same word each time.
+-- Laws of two loops that write a list from the front. One copies another list, the other writes the same word each time.
 use Prim.Native.Nat.{ℕ, zero, suc, _+_, _<_, _≤_}
 use mathlib.Core.Path.{_≡_, refl, ap}
 use mathlib.Core.List.{List, [], _∷_, _++_, append-nil}
@@ -14,12 +14,12 @@ copied-suc zero (x ∷ s) (y ∷ d) in-s in-d = refl
 copied-suc (suc n) (x ∷ s) (y ∷ d) in-s in-d =
     ap (λ (t : List ℕ). x ∷ t) (copied-suc n s d (le-of-suc-le-suc in-s) (le-of-suc-le-suc in-d))
 
--- one turn copies one more word of s to d
+-- One turn copies one more word of s to d.
 pub copied-more : (n : ℕ) (s d : List ℕ) → n < length s → n < length d
     → set (take n s ++ drop n d) n (getD s n 0) ≡ take (n + 1) s ++ drop (n + 1) d
 copied-more n s d in-s in-d = rw add-one (copied-suc n s d in-s in-d)
 
--- at the end all of s is copied
+-- At the end all of s is copied.
 pub copied-all : (s d : List ℕ) (n : ℕ) → length s ≤ n → length d ≤ n → take n s ++ drop n d ≡ s
 copied-all s d n all-s all-d = rw (take-all n s all-s, drop-of-length-le d all-d, append-nil)
 

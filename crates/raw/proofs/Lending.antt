@@ -1,4 +1,4 @@
--- A call on the first words of a table and a buffer: its outcome, said of the whole arrays.
+-- A call runs on the first words of two arrays, the table and the buffer. Here its outcome is stated for the whole arrays.
 use Prim.Native.Nat.{ℕ, _-_, _≤_}
 use mathlib.Core.Path.{_≡_, ap, _∙_}
 use mathlib.Core.List.{List, _++_}

@@ -1,4 +1,4 @@
--- The lengths that the program remembers fit into the arrays of `main`.
+-- The lengths in the program's state fit the arrays of `main`.
 use Prim.Native.Nat.{_≤_}
 use Rattle.raw.specs.declared.State.{State}
 

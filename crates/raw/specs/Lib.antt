@@ -1,3 +1,3 @@
--- The state of the runner, and what a call does to it.
+-- What the contracts of `raw` cite: the state of the program, and what a call does to it.
 pub mod Fits
 pub mod Outcome

@@ -1,4 +1,4 @@
-// Running a call on what was set. The call works on a copy of the table, so that every word it changed can be reported.
+// Runs a call on what was set. The call works on a copy of the table, so that every changed word can be reported.
 
 use crate::Buffer;
 use crate::State;
@@ -15,7 +15,7 @@ ghost use Rattle.lines.specs.Answering.{Runs};
 ghost use Rattle.raw.specs.Fits.{Fits};
 ghost use Rattle.raw.specs.Outcome.{outcome, withHeader, SetAfter};
 
-// Every word of the buffer before each call. A listed word that happens to be the same is not reported as changed.
+// Every word of the buffer has this value before each call. A listed word that has it too is not reported as changed.
 pub(crate) const BLANK: u32 = 2863311530;
 
 pub(crate) fn run(
@@ -37,7 +37,8 @@ pub(crate) fn run(
     state
 }
 
-// The parts of the arrays that were set. Separate because the checker takes a part of a slice, but not of an array behind a reference.
+// Runs the call on the parts of the arrays that were set. Separate because the checker takes a part of a slice, but not of an array behind a
+// reference.
 fn run_on_prefixes(
     call: Call,
     state: State,
@@ -99,7 +100,7 @@ impl State {
     }
 }
 
-// The reply, the copy and the buffer are exactly what `after` says of this call on this header and table.
+// The reply, the copy and the buffer are exactly what `after` says for this call on this header and table.
 fn run_on_copy(
     call: Call,
     header: Header,

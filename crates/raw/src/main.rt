@@ -24,7 +24,7 @@ type Buffer = [u32; 65536];
 // The longest line, 256 bytes, and one byte that shows a line to be too long.
 type Bytes = [u8; 257];
 
-// What the program remembers between two bytes of input, beside the arrays of `main`.
+// What the program keeps between two bytes of input, besides the arrays of `main`.
 pub struct State {
     pub header: Header,
     // how many words the table has, and how many the buffer
@@ -37,7 +37,7 @@ pub struct State {
     pub held: usize,
 }
 
-// A proved loop has to end, and nothing says that the input does. So the loop counts its turns down, from a number that no run uses up.
+// A proved loop must end, but the input may not. So the loop counts its turns down, from a number that no run uses up.
 fn main() {
     let mut table = [0u32; 196608];
     let mut copy = [0u32; 196608];
@@ -64,7 +64,7 @@ fn main() {
     }
 }
 
-// It starts as the line program does: "Table of 4,096 rows, all zeros, and a `list` buffer of 4,096 words. Header at the start: W 0, count 0."
+// The same start as the line program's: "Table of 4,096 rows, all zeros, and a `list` buffer of 4,096 words. Header at the start: W 0, count 0."
 fn start() -> State
     ensures { λ r. ⌜ Fits r ⌝ }
 {
@@ -78,7 +78,8 @@ fn start() -> State
     }
 }
 
-// Reads the next bytes; 0 at the end of input. "or at the end of input if bytes are left": a byte 10 is added there, which ends their line.
+// Reads the next bytes and returns their number; 0 at the end of input. "or at the end of input if bytes are left": a byte 10 is added
+// there, which ends their line.
 fn read_input(input: &mut [u8; 65536], held: usize) -> usize
     ensures { λ r. ⌜ r ≤ 65536 ⌝ }
 {
@@ -94,7 +95,7 @@ fn read_input(input: &mut [u8; 65536], held: usize) -> usize
     1
 }
 
-// Takes in the first n bytes of `input`.
+// Takes the first n bytes of `input`, one by one.
 fn take_bytes(
     before: State,
     input: &[u8; 65536],
@@ -129,7 +130,7 @@ fn take_byte(
 {
     let n = state.held;
     if byte == b'\n' {
-        // the checker takes a part of a slice, but not of an array behind a reference
+        // The checker takes a part of a slice, but not of an array behind a reference.
         let whole = &line[..];
         return run_line(state.with_line_ended(), &whole[0..n], table, copy, buffer);
     }

@@ -1,11 +1,11 @@
-// Parsing a line that sets something: a word, then numbers, each after one tab.
+// Reads a line that sets something: a word, then numbers, each after one tab.
 
 use numbers::Number;
 use numbers::read_number;
 ghost use Prim.Native.Nat.{_≤_};
 ghost use lib.ListN.{length};
 
-// What a line sets. `Other`: it is a call, or is not read.
+// What a line sets. `Other`: the line is a call, or it is not read.
 pub enum Setting {
     Header,
     Table,
@@ -67,7 +67,7 @@ pub(crate) fn find_tab(line: &[u8], from: usize) -> usize
     i
 }
 
-// How many numbers were read, and whether the whole line was.
+// How many numbers were read, and whether the whole line could be read.
 pub struct Numbers {
     pub count: usize,
     pub read: bool,

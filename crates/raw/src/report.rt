@@ -1,4 +1,4 @@
-// What is written to standard output: a reply line, the header, and a line for each word that changed.
+// Writes to standard output: a reply line, the header, and a line for each word that changed.
 
 use crate::State;
 use crate::calls::BLANK;
@@ -13,7 +13,7 @@ ghost use mathlib.Core.Path.{_≡_};
 ghost use lib.ListN.{length};
 ghost use Rattle.raw.specs.Fits.{Fits};
 
-// Answer 9, "program only: line not read"; nothing is changed.
+// Answer 9, "program only: line not read". Nothing is changed.
 pub(crate) fn unread(state: State) -> State
     requires { ⌜ Fits state ⌝ }
     ensures { λ r. ⌜ r ≡ state ⌝ }

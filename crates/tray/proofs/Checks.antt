@@ -1,4 +1,4 @@
--- What a sample that is counted leaves known: the checks that it passed.
+-- What is known of a counted sample: it has passed every check of `verdict`.
 use Prim.Native.Nat.{ℕ, suc, _≤_, _<_, min}
 use mathlib.Core.Path.{_≡_, refl, sym}
 use mathlib.Core.Bool.{Bool, true, false, cond, _&&_, _||_, true≢false}
@@ -19,56 +19,49 @@ pub at-most-32 : (width : ℕ) → wrong-width width ≡ false → width ≤ 32
 unfolding wrong-width
 at-most-32 width e = ltb-false 32 width (neither (eqb width 0) (ltb 32 width) e .1)
 
-pub window-small : (width : ℕ) → window width ≤ 1024
+-- A window has at least one sample, and at most 1,024.
+pub window-bounds : (width : ℕ) → (0 < window width) × (window width ≤ 1024)
 unfolding window
-window-small width = by-cases (eqb width 1) refl
+window-bounds width = by-cases (eqb width 1) refl
   where
-    by-cases : (b : Bool) → eqb width 1 ≡ b → window width ≤ 1024
-    by-cases true e = rw e (omega arith)
-    by-cases false e = rw e (omega arith)
+    by-cases : (b : Bool) → eqb width 1 ≡ b → (0 < window width) × (window width ≤ 1024)
+    by-cases true e = rw e (omega arith, omega arith)
+    by-cases false e = rw e (omega arith, omega arith)
 
-pub window-some : (width : ℕ) → 0 < window width
-unfolding window
-window-some width = by-cases (eqb width 1) refl
-  where
-    by-cases : (b : Bool) → eqb width 1 ≡ b → 0 < window width
-    by-cases true e = rw e (omega arith)
-    by-cases false e = rw e (omega arith)
-
--- a record that is not refused
-pub record Sound (size : ℕ) (r : Seat) : Type 0 where
+-- a record that is not refused as damaged
+pub record Undamaged (size : ℕ) (r : Seat) : Type 0 where
   pub place : r .place < size
   pub count : r .count ≤ r .place
 
-pub sound : (size : ℕ) (r : Seat) → damaged size r ≡ false → Sound size r
+pub undamaged : (size : ℕ) (r : Seat) → damaged size r ≡ false → Undamaged size r
 unfolding damaged
-sound size r e =
+undamaged size r e =
     let a = neither (leb size (r .place)) (ltb (r .place) (r .count)) e in
     record { place = leb-false size (r .place) (a .0); count = ltb-false (r .place) (r .count) (a .1) }
 
--- the checks that a sample which is counted has passed
+-- every check of `verdict`, passed
 pub record Passed (present : Bool) (r : Seat) (s : Sample) : Type 0 where
   pub width : wrong-width (s .width) ≡ false
   pub word : too-wide (s .width) (s .word) ≡ false
   pub seat : present ≡ true
   pub cutoffs : low-cutoff (s .repetition) (s .proportion) ≡ false
-  pub whole : damaged (window (s .width)) r ≡ false
+  pub undamaged : damaged (window (s .width)) r ≡ false
 
 pub passed : (present : Bool) (r : Seat) (s : Sample) → isCounted (verdict present r s) ≡ true → Passed present r s
 unfolding verdict
 passed present r s e =
-    let all = through (wrong-width (s .width)) (too-wide (s .width) (s .word)) present (low-cutoff (s .repetition) (s .proportion)) (damaged (window (s .width)) r) _ e in
-    record { width = all .0; word = all .1; seat = all .2; cutoffs = all .3; whole = all .4 }
+    let all = none-refused (wrong-width (s .width)) (too-wide (s .width) (s .word)) present (low-cutoff (s .repetition) (s .proportion)) (damaged (window (s .width)) r) _ e in
+    record { width = all .0; word = all .1; seat = all .2; cutoffs = all .3; undamaged = all .4 }
   where
-    through : (a b p l d : Bool) (v : Verdict)
+    none-refused : (a b p l d : Bool) (v : Verdict)
         → isCounted (cond a WrongWidth (cond b WordTooWide (cond p (cond l LowCutoff (cond d Damage v)) NoSuchSeat))) ≡ true
         → (a ≡ false) × (b ≡ false) × (p ≡ true) × (l ≡ false) × (d ≡ false)
-    through true b p l d v e = absurd (true≢false (sym e))
-    through false true p l d v e = absurd (true≢false (sym e))
-    through false false false l d v e = absurd (true≢false (sym e))
-    through false false true true d v e = absurd (true≢false (sym e))
-    through false false true false true v e = absurd (true≢false (sym e))
-    through false false true false false v e = (refl, refl, refl, refl, refl)
+    none-refused true b p l d v e = absurd (true≢false (sym e))
+    none-refused false true p l d v e = absurd (true≢false (sym e))
+    none-refused false false false l d v e = absurd (true≢false (sym e))
+    none-refused false false true true d v e = absurd (true≢false (sym e))
+    none-refused false false true false true v e = absurd (true≢false (sym e))
+    none-refused false false true false false v e = (refl, refl, refl, refl, refl)
 
 implied : (a b : Bool) → (b ≡ true → a ≡ true) → a ≡ (a || b)
 implied true b h = refl
@@ -79,10 +72,10 @@ pub both : (a b : Bool) → a && b ≡ true → (a ≡ true) × (b ≡ true)
 both true b h = (refl, h)
 both false b h = (h, cc)
 
--- A cutoff of 32 bits is at most the top, so the run alone decides: where a run at its top repeats, it has reached every such cutoff.
-pub by-the-run : (r : Seat) (cutoff word : ℕ) → cutoff ≤ top → leb cutoff (runWith r word) ≡ repetitionAlarm r cutoff word
+-- A cutoff of 32 bits is at most the top. So a run at its top has reached every cutoff, and the run alone decides.
+pub run-decides : (r : Seat) (cutoff word : ℕ) → cutoff ≤ top → leb cutoff (runWith r word) ≡ repetitionAlarm r cutoff word
 unfolding repetitionAlarm runWith
-by-the-run r cutoff word fits =
+run-decides r cutoff word fits =
     implied (leb cutoff (runWith r word)) (repeats r word && eqb (r .run) top) (λ h.
     let t = both (repeats r word) (eqb (r .run) top) h in
     let at-top : r .run ≡ top = eqb-true (r .run) top (t .1) in

@@ -1,4 +1,4 @@
--- The tags of verdicts, as a `match` tells them: that of a refusal is not that of a count.
+-- A `match` gives the tag of a verdict. The tag of `Counted` is 0, so the tag of a refusal is greater.
 use Prim.Native.Nat.{ℕ, _<_}
 use mathlib.Core.List.{[], _∷_}
 use mathlib.Core.Logic.{inl, inr}

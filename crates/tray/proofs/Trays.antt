@@ -1,7 +1,7 @@
--- The laws of the tray: a sample changes its seat's record alone, a refusal changes nothing, and what is known of a seat that is in the tray or is not.
+-- The laws of the tray: a sample changes its seat's record alone, and a refusal changes nothing.
 use Prim.Native.Nat.{ℕ, _≤_, _<_}
-use mathlib.Core.Path.{_≡_, refl, sym, ap, _∙_}
-use mathlib.Core.Bool.{Bool, true, false}
+use mathlib.Core.Path.{_≡_, sym}
+use mathlib.Core.Bool.{false}
 use mathlib.Core.List.{List}
 use mathlib.Core.Logic.{_≢_}
 use lib.Dec.{ltb}
@@ -24,7 +24,7 @@ module _ (tray : List Seat) (seat : ℕ) where
   missing past = simp (le-ltb seat (length tray) past)
 
 module _ (tray : List Seat) (seat : ℕ) (s : Sample) where
-  -- every other record stays
+  -- Every other record stays as it was.
   pub others-stay : (other : ℕ) → other ≢ seat → getD (trayAfter tray seat s) other fresh ≡ getD tray other fresh
   unfolding trayAfter
   others-stay other differs = getD-set-other tray seat other _ fresh differs
@@ -33,12 +33,12 @@ module _ (tray : List Seat) (seat : ℕ) (s : Sample) where
   unfolding trayAfter
   length-stays = length-set tray seat _
 
-  -- a refusal changes nothing
+  -- A refusal changes nothing.
   pub refusal-leaves : isCounted (replyTo tray seat s) ≡ false → trayAfter tray seat s ≡ tray
   unfolding trayAfter replyTo after
   refusal-leaves refused = simp refused (set-getD tray seat fresh)
 
-  -- what the two thin functions have shown, as the contract has it
+  -- The contract of `take_sample`, from what `take_at` and `absent` ensure.
   pub sampled-present : (left : List Seat) (answer : Verdict) → seat < length tray
       → (answer ≡ verdict (ltb seat 64) (getD tray seat fresh) s) × (left ≡ set tray seat (after (ltb seat 64) (getD tray seat fresh) s))
       → Sampled tray seat s left answer

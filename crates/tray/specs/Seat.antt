@@ -1,4 +1,4 @@
--- One seat's record: what a sample is answered with, and what it leaves. Cutoffs, words and counts are numbers.
+-- One seat's record: the answer to a sample, and the record after it. Cutoffs, words and counts are numbers.
 -- Document 02, §6: "Each test's own alarm is raised at each sample that lifts the standard's count to the cutoff or past it, or repeats the
 -- word of a run at its top, and at no other; counting goes on after it."
 use Prim.Native.Nat.{ℕ, suc, _^_, min}
@@ -21,32 +21,32 @@ top = 4294967295
 unfoldable pub window : ℕ → ℕ
 window width = cond (eqb width 1) 1024 512
 
--- The word repeats the last one; "a run of 0 means no sample yet".
+-- Whether the word repeats the last one. "a run of 0 means no sample yet".
 unfoldable pub repeats : Seat → ℕ → Bool
 repeats r word = ltb 0 (r .run) && eqb (r .last) word
 
--- the run that ends with the word
+-- the run with this word counted
 unfoldable pub runWith : Seat → ℕ → ℕ
 runWith r word = cond (repeats r word) (min (suc (r .run)) top) 1
 
 unfoldable pub repetitionAlarm : Seat → ℕ → ℕ → Bool
 repetitionAlarm r cutoff word = leb cutoff (runWith r word) || (repeats r word && eqb (r .run) top)
 
--- The word is the window's: the first of a window is. "The place is how many samples the present window has had".
+-- Whether the word is the window's word; a window's first word is. "The place is how many samples the present window has had".
 unfoldable pub isWindowWord : Seat → ℕ → Bool
 isWindowWord r word = eqb (r .place) 0 || eqb (r .word) word
 
 unfoldable pub windowWord : Seat → ℕ → ℕ
 windowWord r word = cond (eqb (r .place) 0) word (r .word)
 
--- the count of the window's word with this one
+-- the count of the window's word, with this word counted
 unfoldable pub countWith : Seat → ℕ → ℕ
 countWith r word = cond (isWindowWord r word) (suc (r .count)) (r .count)
 
 unfoldable pub proportionAlarm : Seat → ℕ → ℕ → Bool
 proportionAlarm r cutoff word = isWindowWord r word && leb cutoff (countWith r word)
 
--- The record with one word more. "after a window's last sample its word, place and count are 0"
+-- The record with one more word counted. "after a window's last sample its word, place and count are 0"
 unfoldable pub counted : ℕ → Seat → ℕ → Seat
 counted size r word =
     cond (eqb (suc (r .place)) size)
@@ -69,8 +69,8 @@ low-cutoff repetition proportion = ltb repetition 2 || ltb proportion 2
 unfoldable pub damaged : ℕ → Seat → Bool
 damaged size r = leb size (r .place) || ltb (r .place) (r .count)
 
--- What a sample is answered with, in the order of the refusals. `present` says whether the seat is in the tray and below 64; if not, the record
--- plays no part.
+-- The answer to a sample. The order of the lines is the order of the refusals. `present` says whether the seat is in the tray and below 64; if
+-- not, the record plays no part.
 unfoldable pub verdict : Bool → Seat → Sample → Verdict
 verdict present r s =
     cond (wrong-width (s .width)) WrongWidth
@@ -89,6 +89,6 @@ isCounted NoSuchSeat = false
 isCounted LowCutoff = false
 isCounted Damage = false
 
--- The record that it leaves: a refusal changes nothing.
+-- The record after a sample. A refusal changes nothing.
 unfoldable pub after : Bool → Seat → Sample → Seat
 after present r s = cond (isCounted (verdict present r s)) (counted (window (s .width)) r (s .word)) r

@@ -1,4 +1,4 @@
--- The tray: a list of seat records, of which a sample changes its seat's alone.
+-- The tray is a list of seat records. A sample changes its seat's record alone.
 -- Document 02, §6: "A sample for one seat changes that seat's record alone." [..] "13 for a seat that isn't in the tray or is 64 or more".
 use Prim.Native.Nat.{ℕ}
 use mathlib.Core.Path.{_≡_}
@@ -14,11 +14,11 @@ use Rattle.tray.specs.Seat.{fresh, verdict, after}
 unfoldable pub isPresent : List Seat → ℕ → Bool
 isPresent tray seat = ltb seat (length tray) && ltb seat 64
 
--- what a sample for a seat is answered with
+-- the answer to a sample for a seat
 unfoldable pub replyTo : List Seat → ℕ → Sample → Verdict
 replyTo tray seat s = verdict (isPresent tray seat) (getD tray seat fresh) s
 
--- The tray that it leaves: another record at that seat. Past the end of the tray `set` sets nothing.
+-- The tray after the sample: that seat's record is replaced. Past the end of the tray `set` changes nothing.
 unfoldable pub trayAfter : List Seat → ℕ → Sample → List Seat
 trayAfter tray seat s = set tray seat (after (isPresent tray seat) (getD tray seat fresh) s)
 

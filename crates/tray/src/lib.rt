@@ -1,5 +1,5 @@
 // Health tests for a tray of up to 64 chips: the repetition count test and the adaptive proportion test of NIST SP 800-90B, 4.4.1 and
-// 4.4.2, sample by sample. Document 02, §6; specs/Seat.antt quotes it and says what each sample is answered with and what it leaves.
+// 4.4.2, sample by sample. Document 02, §6; specs/Seat.antt quotes it and defines the answer to each sample and the record after it.
 //
 // A caller lends its tray and calls `take_sample`. The work is done by value, on one seat's record; two functions touch the tray.
 ghost use mathlib.Core.Path.{_≡_};
@@ -22,7 +22,7 @@ pub struct Seat {
     pub count: u32,
 }
 
-// "The word width and the cutoffs are handed in with each sample". The cutoffs go by the names of their tests.
+// "The word width and the cutoffs are handed in with each sample". `repetition` and `proportion` are the cutoffs of the two tests.
 pub struct Sample {
     pub width: u32,
     pub word: u32,
@@ -30,7 +30,7 @@ pub struct Sample {
     pub proportion: u32,
 }
 
-// What a sample is answered with: both alarms, or a refusal. `numberOf`, in specs/Verdict.antt, gives the document's number of each.
+// The answer to a sample: both alarms, or a refusal. `numberOf`, in specs/Verdict.antt, gives each its number in the document.
 pub enum Verdict {
     Counted { repetition: bool, proportion: bool },
     WrongWidth,
@@ -59,7 +59,7 @@ impl Verdict {
     }
 }
 
-// A sample for one seat of the tray. Every other record stays, and a refusal changes nothing.
+// Takes a sample for one seat of the tray. Every other record stays as it was, and a refusal changes nothing.
 pub fn take_sample(tray: &mut [Seat], seat: usize, sample: Sample) -> Verdict
     ensures { λ r. ⌜ Sampled (now (tray .entry)) seat sample (now (tray .exit)) r ⌝ }
 {
@@ -69,9 +69,9 @@ pub fn take_sample(tray: &mut [Seat], seat: usize, sample: Sample) -> Verdict
     absent(sample)
 }
 
-// A sample for a seat that has a record.
+// Takes a sample for a seat that has a record.
 fn take_at(tray: &mut [Seat], seat: usize, sample: Sample) -> Verdict
-    requires { ⌜ seat < length (now tray) ⌝ }
+    requires in_tray { ⌜ seat < length (now tray) ⌝ }
     ensures { λ r. ⌜ (r ≡ verdict (ltb seat 64) (getD (now (tray .entry)) seat fresh) sample)
         × (now (tray .exit) ≡ set (now (tray .entry)) seat (after (ltb seat 64) (getD (now (tray .entry)) seat fresh) sample)) ⌝ }
 {
@@ -80,7 +80,7 @@ fn take_at(tray: &mut [Seat], seat: usize, sample: Sample) -> Verdict
     record.verdict(seat, sample)
 }
 
-// A sample for a seat that has no record.
+// The answer for a seat that has no record. No tray has a seat 64, so the fresh record plays no part.
 pub fn absent(sample: Sample) -> Verdict
     ensures { λ r. ⌜ r ≡ verdict false fresh sample ⌝ }
 {
@@ -104,7 +104,7 @@ impl Seat {
         }
     }
 
-    // What a sample for this record's seat, of this number, is answered with.
+    // The answer to a sample; `seat` is the number of this record's seat.
     pub fn verdict(self, seat: usize, sample: Sample) -> Verdict
         ensures { λ r. ⌜ r ≡ verdict (ltb seat 64) self sample ⌝ }
     {
@@ -129,7 +129,7 @@ impl Seat {
         }
     }
 
-    // The record that it leaves.
+    // The record after the sample.
     pub fn after(self, seat: usize, sample: Sample) -> Self
         ensures { λ r. ⌜ r ≡ after (ltb seat 64) self sample ⌝ }
     {
@@ -153,7 +153,7 @@ impl Seat {
         self.place < self.count
     }
 
-    // Whether the word repeats the last one.
+    // Whether the word repeats the last one; "a run of 0 means no sample yet".
     fn repeats(self, word: u32) -> bool
         ensures { λ r. ⌜ r ≡ repeats self word ⌝ }
     {
@@ -163,7 +163,7 @@ impl Seat {
         self.last == word
     }
 
-    // The run that ends with the word.
+    // The run with this word counted.
     fn run_with(self, word: u32) -> u32
         ensures { λ r. ⌜ r ≡ runWith self word ⌝ }
     {
@@ -185,7 +185,7 @@ impl Seat {
         cutoff <= self.run_with(word)
     }
 
-    // Whether the word is the window's. The first of a window is.
+    // Whether the word is the window's word. A window's first word is.
     fn is_window_word(self, word: u32) -> bool
         ensures { λ r. ⌜ r ≡ isWindowWord self word ⌝ }
     {
@@ -195,16 +195,16 @@ impl Seat {
         self.word == word
     }
 
-    // The window's word. The first of a window becomes it.
+    // The window's word after this word. A window's first word becomes it.
     fn window_word(self, word: u32) -> u32
         ensures { λ r. ⌜ r ≡ windowWord self word ⌝ }
     {
         if self.place == 0 { word } else { self.word }
     }
 
-    // The count of the window's word with this one.
+    // The count of the window's word, with this word counted.
     fn count_with(self, word: u32) -> u32
-        requires { ⌜ self .count < 1024 ⌝ }
+        requires undamaged { ⌜ self .count < 1024 ⌝ }
         ensures { λ r. ⌜ r ≡ countWith self word ⌝ }
     {
         if self.is_window_word(word) {
@@ -215,7 +215,7 @@ impl Seat {
     }
 
     fn proportion_alarm(self, cutoff: u32, word: u32) -> bool
-        requires { ⌜ self .count < 1024 ⌝ }
+        requires undamaged { ⌜ self .count < 1024 ⌝ }
         ensures { λ r. ⌜ r ≡ proportionAlarm self cutoff word ⌝ }
     {
         if self.is_window_word(word) {
@@ -225,9 +225,9 @@ impl Seat {
         }
     }
 
-    // The record with one word more.
+    // The record with one more word counted.
     fn counted(self, size: u32, word: u32) -> Self
-        requires { ⌜ (self .place < 1024) × (self .count < 1024) ⌝ }
+        requires undamaged { ⌜ (self .place < 1024) × (self .count < 1024) ⌝ }
         ensures { λ r. ⌜ r ≡ counted size self word ⌝ }
     {
         let run = self.run_with(word);
@@ -269,7 +269,7 @@ fn wrong_width(width: u32) -> bool
 
 // Refusal 3.
 fn too_wide(width: u32, word: u32) -> bool
-    requires { ⌜ width ≤ 32 ⌝ }
+    requires right_width { ⌜ width ≤ 32 ⌝ }
     ensures { λ r. ⌜ r ≡ too-wide width word ⌝ }
 {
     1u64 << width <= word as u64

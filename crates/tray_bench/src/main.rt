@@ -1,4 +1,4 @@
-// The tray program: see tray_lines. The script `tray` runs it.
+// The tray program, which the script `tray` runs. Crate tray_lines has all of it.
 
 fn main() {
     tray_lines::run();

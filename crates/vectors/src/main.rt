@@ -1,4 +1,4 @@
-// The line program on the lines of tests/model/vectors.py, with the seed 1: small and large widths, wild lines, and a last line that has no byte 10.
+// The line program on lines that tests/model/vectors.py makes from seed 1: small and large widths, lines that are not read, and a last line without a byte 10.
 
 fn main() {
     lines::run();

@@ -1,4 +1,4 @@
-// The tray program on words of one bit, with windows of 1,024 samples. Input and output are those of tests/model/vectors.py.
+// The tray program on words of one bit, with windows of 1,024 samples. tests/model/vectors.py makes input and output.
 
 fn main() {
     tray_lines::run();

@@ -1,8 +1,8 @@
-// The calls by value of crate `tray` on seat records that come as data: damaged ones too, which no sequence of samples leaves.
+// Runs the calls by value of crate `tray` on seat records given as data. Some are damaged: no sequence of samples leaves such a record.
 //
-// A line has eleven numbers, parted by tabs: the length of a tray whose records are all alike; a seat; a sample (width, word, repetition cutoff,
+// A line has eleven numbers, separated by tabs: the length of a tray whose records are all alike; a seat; a sample (width, word, repetition cutoff,
 // proportion cutoff); the record (last word, run, window's word, place, count). The reply has the answer number, both alarms and the seat's record
-// after the sample. Input and output are those of tests/model/vectors.py. No other input comes, so nothing is done about lines of another form.
+// after the sample. tests/model/vectors.py makes input and output. There is no other input, so lines of another form are not handled.
 
 use libc::STDIN_FILENO;
 use libc::STDOUT_FILENO;
@@ -45,7 +45,7 @@ fn with_digit(number: u32, digit: u8) -> u32 {
 }
 
 fn reply(numbers: [u32; 11])
-    requires { ⌜ length numbers ≡ 11 ⌝ }
+    requires eleven { ⌜ length numbers ≡ 11 ⌝ }
 {
     let sample = Sample {
         width: numbers[2],
@@ -63,7 +63,7 @@ fn reply(numbers: [u32; 11])
     reply_at(numbers[0], numbers[1], sample, record);
 }
 
-// As in `tray::take_sample`: a seat that is not in the tray has no record. The one of the line is then written as it came.
+// As in `tray::take_sample`, a seat that is not in the tray has no record. The line's record is then printed unchanged.
 fn reply_at(length: u32, seat: u32, sample: Sample, record: Seat) {
     if seat < length {
         print_verdict(record.verdict(seat as usize, sample));

@@ -1,5 +1,5 @@
-// The tray program on words of 5 bits, with windows of 512 samples, cutoffs of 2, refused samples and lines that are not read. Input and output
-// are those of tests/model/vectors.py.
+// The tray program on words of 5 bits, with windows of 512 samples, cutoffs of 2, refused samples and lines that are not read.
+// tests/model/vectors.py makes input and output.
 
 fn main() {
     tray_lines::run();

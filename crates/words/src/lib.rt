@@ -1,6 +1,6 @@
-// The calls of `pretree` for a program in C, as tests/speed calls them: plain numbers and a table of 32-bit words go in, and the reply comes
-// back as six numbers. Each function is its call and adds nothing, so a caller may give any numbers: a refusal is an answer.
-// A slice is a pointer and a number of words, in C's order of arguments; `reply` is a pointer to six words.
+// The calls of `pretree` for a program in C, such as tests/speed. Arguments are plain numbers and a table of 32-bit words; the reply is six
+// numbers. Each function makes its call and does nothing else. A caller may give any numbers: a refusal is an answer.
+// For C a slice is two arguments, a pointer and then a number of words. `reply` is a pointer to six words.
 
 use pretree::Answer;
 use pretree::Header;

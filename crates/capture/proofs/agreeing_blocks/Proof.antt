@@ -1,9 +1,8 @@
--- `capture::agreeing_blocks` meets its contract. The loop's invariant: the blocks passed agree. Assumes nothing.
-use Prim.Native.Nat.{_≤_, _+_, _-_, min}
+-- `capture::agreeing_blocks` meets its contract. The loop's invariant: the first n bytes agree. Assumes nothing.
+use Prim.Native.Nat.{_≤_, _+_, _-_}
 use native.Mathlib.Omega.{arith}
-use mathlib.Core.Path.{_≡_, sym, _∙_}
+use mathlib.Core.Path.{sym, _∙_}
 use borrow.Author.Tests.{leb-true, leb-false, not-true, not-false}
-use lib.ListN.{length}
 use Rattle.capture.specs.Capture.{agreeing}
 use Rattle.capture.proofs.Agreeing.{within-both}
 use Rattle.capture.proofs.agreeing_blocks.Statement.{statement}
@@ -15,27 +14,15 @@ Inv-loop new earlier most n₀ n = n ≤ agreeing new earlier
 abbrev μ-loop : tie.MeasureT-loop
 μ-loop new earlier most n₀ n = most - n
 
-loop-holds : tie.Need-loop-holds Inv-loop μ-loop
-loop-holds c = omega arith
-
 sub-loop : tie.Need-sub-loop Inv-loop μ-loop
 sub-loop c =
     let a = c .before .before .before .args in
     omega (arith, within-both (a .new .now) (a .earlier .now))
 
-block-agrees-requires : tie.Need-block-agrees-requires Inv-loop μ-loop
-block-agrees-requires c κs = omega arith
-
 returns : tie.Need-returns Inv-loop μ-loop
 returns c =
     let a = c .before .before .before .before .before .before .args in
     omega (arith, leb-false (c .before .before .before .loop .n + 64) (agreeing (a .new .now) (a .earlier .now)) (sym (c .before .block-agrees .ensures) ∙ not-true (c .before .block-agrees .result) (c .if1 .taken)))
-
-add-n : tie.Need-add-n Inv-loop μ-loop
-add-n c = omega arith
-
-loop-less : tie.Need-loop-less Inv-loop μ-loop
-loop-less c = omega arith
 
 loop-again : tie.Need-loop-again Inv-loop μ-loop
 loop-again c =
@@ -53,11 +40,11 @@ agreeing-blocks-spec =
     (tie.spec
     Inv-loop
     μ-loop
-    loop-holds
+    (λ c. omega arith)
     sub-loop
-    block-agrees-requires
+    (λ c κs. omega arith)
     returns
-    add-n
-    loop-less
+    (λ c. omega arith)
+    (λ c. omega arith)
     loop-again
     returns-2)

@@ -1,4 +1,4 @@
--- `capture::block_agrees` meets its contract. The loop's invariant: `same` says whether the bytes compared agree, and all before them.
+-- `capture::block_agrees` meets its contract. The loop's invariant: `same` says whether the first `from` + i bytes agree.
 -- Assumes nothing.
 use Prim.Native.Nat.{suc, _≤_, _+_, _-_}
 use native.Mathlib.Omega.{arith}
@@ -6,7 +6,7 @@ use mathlib.Core.Path.{_≡_, sym}
 use borrow.Author.Tests.{le-leb}
 use lib.Dec.{leb}
 use Rattle.capture.specs.Capture.{agreeing}
-use Rattle.capture.proofs.Agreeing.{one-more}
+use Rattle.capture.proofs.Agreeing.{agreeing-next}
 use Rattle.capture.proofs.block_agrees.Statement.{statement}
 use Rattle.capture.proofs.block_agrees.Tie as tie
 
@@ -19,30 +19,12 @@ abbrev μ-loop : tie.MeasureT-loop
 loop-holds : tie.Need-loop-holds Inv-loop μ-loop
 loop-holds c = (omega arith, sym (le-leb (c .args .from + 0) (agreeing (c .args .new .now) (c .args .earlier .now)) (omega arith)))
 
-add-same : tie.Need-add-same Inv-loop μ-loop
-add-same c = omega arith
-
-shared-slice-read-same : tie.Need-shared-slice-read-same Inv-loop μ-loop
-shared-slice-read-same c = omega arith
-
-add-same-2 : tie.Need-add-same-2 Inv-loop μ-loop
-add-same-2 c = omega arith
-
-shared-slice-read-same-2 : tie.Need-shared-slice-read-same-2 Inv-loop μ-loop
-shared-slice-read-same-2 c = omega arith
-
-add-i : tie.Need-add-i Inv-loop μ-loop
-add-i c = omega arith
-
-loop-less : tie.Need-loop-less Inv-loop μ-loop
-loop-less c = omega arith
-
 loop-again : tie.Need-loop-again Inv-loop μ-loop
 loop-again c =
     let a = c .before .before .before .before .args in
     let l = c .before .before .before .loop in
     let next : a .from + (l .i + 1) ≡ suc (a .from + l .i) = omega arith in
-    (omega arith, rw (l .inv .1, next) (sym (one-more (a .new .now) (a .earlier .now) (a .from + l .i) (omega arith))))
+    (omega arith, rw (l .inv .1, next) (sym (agreeing-next (a .new .now) (a .earlier .now) (a .from + l .i) (omega arith))))
 
 returns : tie.Need-returns Inv-loop μ-loop
 returns c =
@@ -57,11 +39,11 @@ block-agrees-spec =
     Inv-loop
     μ-loop
     loop-holds
-    add-same
-    shared-slice-read-same
-    add-same-2
-    shared-slice-read-same-2
-    add-i
-    loop-less
+    (λ c. omega arith)
+    (λ c. omega arith)
+    (λ c. omega arith)
+    (λ c. omega arith)
+    (λ c. omega arith)
+    (λ c. omega arith)
     loop-again
     returns)

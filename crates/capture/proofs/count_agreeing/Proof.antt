@@ -1,4 +1,4 @@
--- `capture::count_agreeing` meets its contract. The loop's invariant: the bytes passed agree. Assumes nothing.
+-- `capture::count_agreeing` meets its contract. The loop's invariant: the first n bytes agree. Assumes nothing.
 use Prim.Native.Nat.{_≤_, _-_, min}
 use native.Mathlib.Omega.{arith}
 use mathlib.Core.Path.{_≡_}
@@ -22,28 +22,17 @@ agreeing-blocks-requires c κs = ⊎-elim (λ w. omega arith) (λ w. omega arith
 loop-holds : tie.Need-loop-holds Inv-loop μ-loop
 loop-holds c = ⊎-elim (λ w. omega arith) (λ w. omega arith) (c .before .if1 .came)
 
-shared-slice-read-if2 : tie.Need-shared-slice-read-if2 Inv-loop μ-loop
-shared-slice-read-if2 c = omega arith
-
-shared-slice-read-if2-2 : tie.Need-shared-slice-read-if2-2 Inv-loop μ-loop
-shared-slice-read-if2-2 c = omega arith
-
 returns : tie.Need-returns Inv-loop μ-loop
 returns c =
-    let a = c .before .before .before .before .before .before .before .before .before .args in
-    omega (arith, at-a-difference (a .new .now) (a .earlier .now) (c .before .before .before .before .loop .n) (omega arith) (c .if2 .taken))
-
-add-n : tie.Need-add-n Inv-loop μ-loop
-add-n c = omega arith
-
-loop-less : tie.Need-loop-less Inv-loop μ-loop
-loop-less c = omega arith
+    let turn = c .before .before .before .before in
+    let a = turn .before .before .before .before .before .args in
+    omega (arith, at-a-difference (a .new .now) (a .earlier .now) (turn .loop .n) (omega arith) (c .if2 .taken))
 
 loop-again : tie.Need-loop-again Inv-loop μ-loop
 loop-again c =
-    let a = c .before .before .before .before .before .before .before .before .before .args in
-    let n = c .before .before .before .before .loop .n in
-    omega (arith, at-an-agreement (a .new .now) (a .earlier .now) n (omega arith) (omega arith) (c .if2 .left))
+    let turn = c .before .before .before .before in
+    let a = turn .before .before .before .before .before .args in
+    omega (arith, at-an-agreement (a .new .now) (a .earlier .now) (turn .loop .n) (omega arith) (omega arith) (c .if2 .left))
 
 returns-2 : tie.Need-returns-2 Inv-loop μ-loop
 returns-2 c =
@@ -58,10 +47,10 @@ count-agreeing-spec =
     μ-loop
     agreeing-blocks-requires
     loop-holds
-    shared-slice-read-if2
-    shared-slice-read-if2-2
+    (λ c. omega arith)
+    (λ c. omega arith)
     returns
-    add-n
-    loop-less
+    (λ c. omega arith)
+    (λ c. omega arith)
     loop-again
     returns-2)

@@ -1,4 +1,4 @@
--- `capture::leading` meets its contract: the bytes counted are the part that `leading` computes. Assumes nothing.
+-- `capture::leading` meets its contract: the first `agreeing` bytes are what the definition `leading` computes. Assumes nothing.
 use borrow.Author.Needs.{needs}
 use native.Mathlib.Omega.{arith}
 use native.Mathlib.Nat.{sub-zero}
@@ -7,15 +7,6 @@ use Rattle.capture.proofs.Agreeing.{within-both}
 use Rattle.capture.proofs.Laws.{has-part}
 use Rattle.capture.proofs.leading.Statement.{statement}
 use Rattle.capture.proofs.leading.Tie as tie
-
-count-agreeing-requires : tie.Need-count-agreeing-requires
-count-agreeing-requires c κs = search needs
-
-sub-result : tie.Need-sub-result
-sub-result c = search needs
-
-part-result-start : tie.Need-part-result-start
-part-result-start c = search needs
 
 part-result-end : tie.Need-part-result-end
 part-result-end c =
@@ -31,4 +22,4 @@ returns c =
 pub leading-spec : {M : Type 1} → statement M
 leading-spec =
     tie.close
-    (tie.spec count-agreeing-requires sub-result part-result-start part-result-end returns)
+    (tie.spec (λ c κs. search needs) (λ c. search needs) (λ c. search needs) part-result-end returns)

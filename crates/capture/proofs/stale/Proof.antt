@@ -1,4 +1,4 @@
--- `capture::stale` meets its contract: what `leading` returns is the part that the definition computes. Assumes nothing.
+-- `capture::stale` meets its contract: the part that `leading` returns is the one in the definition of `isStale`. Assumes nothing.
 use borrow.Author.Needs.{needs}
 use borrow.Author.Tests.{lt-ltb, le-ltb}
 use native.Mathlib.Omega.{arith}
@@ -7,9 +7,6 @@ use Rattle.capture.specs.Capture.{isStale}
 use Rattle.capture.proofs.Laws.{no-other}
 use Rattle.capture.proofs.stale.Statement.{statement}
 use Rattle.capture.proofs.stale.Tie as tie
-
-leading-requires : tie.Need-leading-requires
-leading-requires c κs = search needs
 
 returns : tie.Need-returns
 unfolding isStale
@@ -24,4 +21,4 @@ returns-2 c =
     rw (le-ltb 0 (length (a .new .now)) (omega arith))
 
 pub stale-spec : {M : Type 1} → statement M
-stale-spec = tie.close (tie.spec leading-requires returns returns-2)
+stale-spec = tie.close (tie.spec (λ c κs. search needs) returns returns-2)

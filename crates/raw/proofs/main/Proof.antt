@@ -1,4 +1,4 @@
--- The state fits after each piece of input, and each piece takes a turn.
+-- The loop's invariant: the lengths in the state fit the arrays. Each piece of input takes one turn.
 use borrow.Author.Needs.{needs}
 use Rattle.raw.specs.Fits.{Fits}
 use Rattle.raw.proofs.main.Statement.{statement}

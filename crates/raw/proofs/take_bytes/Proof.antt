@@ -1,4 +1,4 @@
--- The state fits after each byte.
+-- The loop's invariant: the lengths in the state fit the arrays.
 use Prim.Native.Nat.{_-_, _≤_}
 use borrow.Author.Needs.{needs}
 use Rattle.raw.specs.Fits.{Fits}

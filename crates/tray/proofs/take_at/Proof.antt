@@ -1,6 +1,5 @@
--- `tray::take_at` meets its contract: a walk of its MIR, by hand. The borrow is opened, the seat's record is taken out of the row and read, `after` is called on
--- it, what it returns is stored in its place, the borrow is closed at the list with that record in it, and `verdict` is called. All that the proof knows of the
--- two is that each meets its contract.
+-- `tray::take_at` meets its contract, by a walk through its MIR by hand. The walk opens the borrow, takes out the seat's record, calls `after` on it, stores the
+-- result in its place, closes the borrow with that list, and calls `verdict`. Of `after` and `verdict` the proof knows only that each meets its contract.
 -- Assumes nothing.
 use mathlib.Core.Path.{_≡_, refl, sym, ap, subst}
 use Prim.Native.Nat.{ℕ, _<_, _^_, _*_}
@@ -75,13 +74,13 @@ stayed = (stay-slice (0 ∷ []) tt (plain (λ _. T.the-row)), (stay-none (λ _. 
 
 module _ {M : Type 1} (𝓤 : URA M) (H : Heap 𝓤) (A : Atoms 𝓤) (mem : Memory → SProp 𝓤) (run : Routine → Fun 𝓤) where
   -- the contracts that the proof cites
-  abbrev After : Contract 𝓤
-  After = tripleOf 𝓤 H A after-fn.signature (after-fn.spec 𝓤 H A mem run)
+  abbrev AfterContract : Contract 𝓤
+  AfterContract = tripleOf 𝓤 H A after-fn.signature (after-fn.spec 𝓤 H A mem run)
 
-  abbrev Judged : Contract 𝓤
-  Judged = tripleOf 𝓤 H A verdict-fn.signature (verdict-fn.spec 𝓤 H A mem run)
+  abbrev VerdictContract : Contract 𝓤
+  VerdictContract = tripleOf 𝓤 H A verdict-fn.signature (verdict-fn.spec 𝓤 H A mem run)
 
-  -- of each callee's `ensured`, the clause alone: neither has a `&mut`
+  -- The `ensures` clause of each callee. Its `ensured` has nothing else to say, since neither callee has a `&mut`.
   after-of : (h : Seat) (i : ℕ) (s : Sample) (r : Seat)
       → ent 𝓤 (ensured 𝓤 H A after-fn.ended (after-fn.clauses 𝓤 H A mem run) tt (h, (i, (s, tt))) tt r) (fact 𝓤 (r ≡ spec.after (ltb i 64) h s))
   after-of h i s r = exE 𝓤 _ (λ ws. snd∗ 𝓤 (sem 𝓤 H A (lasts after-fn.ended tt (h, (i, (s, tt))) ws)) (fact 𝓤 (r ≡ spec.after (ltb i 64) h s)))
@@ -92,11 +91,11 @@ module _ {M : Type 1} (𝓤 : URA M) (H : Heap 𝓤) (A : Atoms 𝓤) (mem : Mem
 
 module _ {M : Type 1} (𝓤 : URA M) (H : Heap 𝓤) (A : Atoms 𝓤) (W : Given 𝓤 H A) (mem : Memory → SProp 𝓤) (run : Routine → Fun 𝓤) (κ : Lft) (q : Share) (b o : ℕ) (γ : GName) (ys : List Seat) (i : ℕ) (s : Sample) (i-fits : i < 2 ^ 64)
     (s-is : Is S.the-row s (LL.vals S.the-type S′.the-laws s)) where
-  -- the tray at the list l
+  -- the lent tray, with the records l
   abbrev x : List Seat → RefT (List Seat)
   x l = record { ptr = (b, o); name = γ; now = l }
 
-  -- the seat's record, the one that it leaves, and the tray at exit
+  -- the seat's record, the record after the sample, and the tray at exit
   abbrev h : Seat
   h = getD ys i fresh
 
@@ -128,21 +127,12 @@ module _ {M : Type 1} (𝓤 : URA M) (H : Heap 𝓤) (A : Atoms 𝓤) (W : Given
   abbrev Post : Val → SProp 𝓤
   Post = walkOf 𝓤 H A take-at.ended stayed (take-at.clauses 𝓤 H A mem run) .post (((κ, tt), (q, tt), tt, a, vals), tt)
 
-  -- what each callee's triple binds outside, and that the caller has what it asks
-  abbrev to-after : After 𝓤 H A mem run .Ghost
-  to-after = ((tt, tt, tt, (h, (i, (s, tt))), (mach h ∷ [], (vint w64 i ∷ [], (machS ∷ [], tt)))), tt)
+  -- Both callees are called with the same arguments, and the caller has what they ask.
+  abbrev arguments : AfterContract 𝓤 H A mem run .Ghost
+  arguments = ((tt, tt, tt, (h, (i, (s, tt))), (mach h ∷ [], (vint w64 i ∷ [], (machS ∷ [], tt)))), tt)
 
-  goes-after : Is T.the-row h (mach h ∷ []) → ent 𝓤 (sem 𝓤 H A ftrue) (After 𝓤 H A mem run .pre to-after)
-  goes-after is =
-      qed W (‵ ftrue ∷ []) ∵ owned ! S.the-row (Is S.the-row) (LL.makes S.the-type S′.the-plain 𝓤 H A) s _ s-is $ fjoin ! $
-      owned ! usize (Is usize) (uint-makes 𝓤 H A W w64) i _ (refl, i-fits) $ fjoin ! $ owned ! T.the-row (Is T.the-row) (LL.makes T.the-type T′.the-plain 𝓤 H A) h _ is $ fjoin ! $
-      nothing ! $ join ! $ frame ! $ done !
-
-  abbrev to-verdict : Judged 𝓤 H A mem run .Ghost
-  to-verdict = ((tt, tt, tt, (h, (i, (s, tt))), (mach h ∷ [], (vint w64 i ∷ [], (machS ∷ [], tt)))), tt)
-
-  goes-verdict : Is T.the-row h (mach h ∷ []) → ent 𝓤 (sem 𝓤 H A ftrue) (Judged 𝓤 H A mem run .pre to-verdict)
-  goes-verdict is =
+  has-arguments : Is T.the-row h (mach h ∷ []) → ent 𝓤 (sem 𝓤 H A ftrue) (AfterContract 𝓤 H A mem run .pre arguments)
+  has-arguments is =
       qed W (‵ ftrue ∷ []) ∵ owned ! S.the-row (Is S.the-row) (LL.makes S.the-type S′.the-plain 𝓤 H A) s _ s-is $ fjoin ! $
       owned ! usize (Is usize) (uint-makes 𝓤 H A W w64) i _ (refl, i-fits) $ fjoin ! $ owned ! T.the-row (Is T.the-row) (LL.makes T.the-type T′.the-plain 𝓤 H A) h _ is $ fjoin ! $
       nothing ! $ join ! $ frame ! $ done !
@@ -158,7 +148,7 @@ module _ {M : Type 1} (𝓤 : URA M) (H : Heap 𝓤) (A : Atoms 𝓤) (W : Given
       nothing ! $ owned ! S.the-row (Is S.the-row) (LL.makes S.the-type S′.the-plain 𝓤 H A) s _ s-is $ fjoin ! $ owned ! usize (Is usize) (uint-makes 𝓤 H A W w64) i _ (refl, i-fits) $ fjoin ! $
       move ! (1 ∷ 0 ∷ []) $ fjoin ! $ done !
 
-  module _ (C : Calls 𝓤 H) (Λ : Loops 𝓤 H) (fm : FmC 𝓤 H (W .laws) C) (known-after : Triple 𝓤 (C #tray·after) (After 𝓤 H A mem run)) (known-verdict : Triple 𝓤 (C #tray·verdict) (Judged 𝓤 H A mem run)) where
+  module _ (C : Calls 𝓤 H) (Λ : Loops 𝓤 H) (fm : FmC 𝓤 H (W .laws) C) (known-after : Triple 𝓤 (C #tray·after) (AfterContract 𝓤 H A mem run)) (known-verdict : Triple 𝓤 (C #tray·verdict) (VerdictContract 𝓤 H A mem run)) where
     walk : Room T.the-row (length ys) → i < length ys → ent 𝓤 (onEntry 𝓤 H A take-at.signature (κ, tt) (q, tt) a vals) (WpFn 𝓤 H C Λ code.function (row ∷ vint w64 i ∷ machS ∷ []) Post)
     walk room within =
         qed W ((‵ (flft κ q) ⊛ ‵ ftrue) ∷ ‵ (owns (MutSlice (named 0) κ T.the-row ∷ usize ∷ S.the-row ∷ []) a vals) ∷ []) ∵ enter ! C Λ code.function (row ∷ vint w64 i ∷ machS ∷ []) _ $
@@ -175,8 +165,8 @@ module _ {M : Type 1} (𝓤 : URA M) (H : Heap 𝓤) (A : Atoms 𝓤) (W : Given
         assigns ! (of-opd ! (load ! (from ! (hop ! (look ! 13 refl) (stop !))) (look ! 0 refl))) (from ! (stop !)) (init ! 11 refl (LL.lawful T.the-type T′.the-laws 𝓤 H A W .typed h _ is .0)) $
         assigns ! (of-opd ! (load ! (from ! (stop !)) (look ! 11 refl))) (from ! (stop !)) (init ! 17 refl (LL.lawful T.the-type T′.the-laws 𝓤 H A W .typed h _ is .0)) $
         -- `after`
-        nothing ! $ use1 W (raw (After 𝓤 H A mem run .pre to-after)) (goes-after is) $
-        calls-at ! fm (After 𝓤 H A mem run) known-after to-after (and-then ! (load ! (from ! (stop !)) (look ! 18 refl)) (and-then ! (load ! (from ! (stop !)) (look ! 22 refl)) (and-then ! (load ! (from ! (stop !)) (look ! 20 refl)) (no-more !)))) (λ v.
+        nothing ! $ use1 W (raw (AfterContract 𝓤 H A mem run .pre arguments)) (has-arguments is) $
+        calls-at ! fm (AfterContract 𝓤 H A mem run) known-after arguments (and-then ! (load ! (from ! (stop !)) (look ! 18 refl)) (and-then ! (load ! (from ! (stop !)) (look ! 22 refl)) (and-then ! (load ! (from ! (stop !)) (look ! 20 refl)) (no-more !)))) (λ v.
         use1 W (later (some (λ (r : Seat). (‵ ftrue ⊛ ‵ (T.the-row .own r (v ∷ []))) ⊛ raw (ensured 𝓤 H A after-fn.ended (after-fn.clauses 𝓤 H A mem run) tt (h, (i, (s, tt))) tt r)))) (id⊢ 𝓤 _) $ await ! tt $ pick ! (λ r.
         split ! $ move ! (1 ∷ []) $ use1 W (raw (fact 𝓤 (r ≡ h′))) (after-of 𝓤 H A mem run h i s r) $ heard ! (r ≡ h′) (λ e₁. split ! $ drop ! $
         rewrite ! 0 (λ (g : Seat). ‵ (T.the-row .own g (v ∷ []))) e₁ refl $ peeks ! T.the-row (Is T.the-row) (shows 𝓤 H A T.the-row) h′ (v ∷ []) (λ is′.
@@ -190,8 +180,8 @@ module _ {M : Type 1} (𝓤 : URA M) (H : Heap 𝓤) (A : Atoms 𝓤) (W : Given
         elem-put ! T.the-row fullShare ys i h′ (v ∷ []) b o within $
         closes-slice ! tt T.the-row ys zs (length-set ys i h′) b o $
         -- `verdict`
-        nothing ! $ use1 W (raw (Judged 𝓤 H A mem run .pre to-verdict)) (goes-verdict is) $
-        calls-at ! fm (Judged 𝓤 H A mem run) known-verdict to-verdict (and-then ! (load ! (from ! (stop !)) (look ! 15 refl)) (and-then ! (load ! (from ! (stop !)) (look ! 19 refl)) (and-then ! (load ! (from ! (stop !)) (look ! 17 refl)) (no-more !)))) (λ w.
+        nothing ! $ use1 W (raw (VerdictContract 𝓤 H A mem run .pre arguments)) (has-arguments is) $
+        calls-at ! fm (VerdictContract 𝓤 H A mem run) known-verdict arguments (and-then ! (load ! (from ! (stop !)) (look ! 15 refl)) (and-then ! (load ! (from ! (stop !)) (look ! 19 refl)) (and-then ! (load ! (from ! (stop !)) (look ! 17 refl)) (no-more !)))) (λ w.
         use1 W (later (some (λ (r : Verdict). (‵ ftrue ⊛ ‵ (D.the-row .own r (w ∷ []))) ⊛ raw (ensured 𝓤 H A verdict-fn.ended (verdict-fn.clauses 𝓤 H A mem run) tt (h, (i, (s, tt))) tt r)))) (id⊢ 𝓤 _) $ await ! tt $ pick ! (λ r′.
         split ! $ move ! (1 ∷ []) $ use1 W (raw (fact 𝓤 (r′ ≡ spec.verdict (ltb i 64) h s))) (verdict-of 𝓤 H A mem run h i s r′) $ heard ! (r′ ≡ spec.verdict (ltb i 64) h s) (λ e₂. split ! $ drop ! $
         peeks ! D.the-row (Is D.the-row) (shows 𝓤 H A D.the-row) r′ (w ∷ []) (λ isV.
@@ -204,7 +194,7 @@ module _ {M : Type 1} (𝓤 : URA M) (H : Heap 𝓤) (A : Atoms 𝓤) (W : Given
         scaled = omega (arith, room .1)
 
 module _ {M : Type 1} (𝓤 : URA M) (H : Heap 𝓤) (A : Atoms 𝓤) (W : Given 𝓤 H A) (mem : Memory → SProp 𝓤) (run : Routine → Fun 𝓤) where
-  take-at-walks : (C : Calls 𝓤 H) (Λ : Loops 𝓤 H) → FmC 𝓤 H (W .laws) C → Triple 𝓤 (C #tray·after) (After 𝓤 H A mem run) → Triple 𝓤 (C #tray·verdict) (Judged 𝓤 H A mem run)
+  take-at-walks : (C : Calls 𝓤 H) (Λ : Loops 𝓤 H) → FmC 𝓤 H (W .laws) C → Triple 𝓤 (C #tray·after) (AfterContract 𝓤 H A mem run) → Triple 𝓤 (C #tray·verdict) (VerdictContract 𝓤 H A mem run)
       → Walks 𝓤 H A take-at.ended stayed (WpFn 𝓤 H C Λ code.function) (take-at.clauses 𝓤 H A mem run)
   take-at-walks C Λ fm known-after known-verdict = walked 𝓤 H A take-at.ended stayed (take-at.clauses 𝓤 H A mem run) (WpFn 𝓤 H C Λ code.function)
       (λ κs. (slice-vals, (uint-vals w64, (LL.vals S.the-type S′.the-laws, tt)))) (λ κs. (mut-slice-tells (named 0) (κs .0) T.the-row, (uint-tells w64, (LL.tells S.the-type S′.the-laws, tt))))
@@ -215,7 +205,7 @@ module _ {M : Type 1} (𝓤 : URA M) (H : Heap 𝓤) (A : Atoms 𝓤) (W : Given
   goes = (goes-slice 𝓤 H A W 1 0 tt (plain (λ _. T.the-row)), (goes-none 𝓤 H A W 1 (λ _. usize) yes (λ κs x f. refl), (goes-none 𝓤 H A W 1 (λ _. S.the-row) yes (λ κs x f. refl), tt)))
 
 take-at-meets : {M : Type 1} (𝓤 : URA M) (H : Heap 𝓤) (A : Atoms 𝓤) → Given 𝓤 H A → (mem : Memory → SProp 𝓤) (run : Routine → Fun 𝓤) (𝓣 : Tables 𝓤 H)
-    → Triple 𝓤 (𝓣 .C #tray·after) (After 𝓤 H A mem run) → Triple 𝓤 (𝓣 .C #tray·verdict) (Judged 𝓤 H A mem run)
+    → Triple 𝓤 (𝓣 .C #tray·after) (AfterContract 𝓤 H A mem run) → Triple 𝓤 (𝓣 .C #tray·verdict) (VerdictContract 𝓤 H A mem run)
     → Meets 𝓤 H A take-at.signature (WpFn 𝓤 H (𝓣 .C) (𝓣 .Λ) code.function) (take-at.spec 𝓤 H A mem run)
 take-at-meets 𝓤 H A W mem run 𝓣 known-after known-verdict =
     walk-meets 𝓤 H A take-at.ended stayed W (goes 𝓤 H A W mem run) (take-at.clauses 𝓤 H A mem run)
@@ -227,5 +217,5 @@ take-at-spec 𝓤 H 𝓜 𝓖 𝓡 =
     entered 𝓤 H (tripleOf 𝓤 H (𝓖 .A) take-at.signature (take-at.spec 𝓤 H (𝓖 .A) (𝓜 .mem) (𝓡 .run)))
     (tables 𝓤 H 𝓜 𝓡 code.env .C) (tables 𝓤 H 𝓜 𝓡 code.env .Λ) #tray·take-at code.function (code.unfolded 𝓤 H 𝓜 𝓡)
     (take-at-meets 𝓤 H (𝓖 .A) (givenOf 𝓤 H 𝓜 𝓖) (𝓜 .mem) (𝓡 .run) (tablesOf 𝓤 H 𝓜 (tables 𝓤 H 𝓜 𝓡 code.env))
-    (cited 𝓤 H (After 𝓤 H (𝓖 .A) (𝓜 .mem) (𝓡 .run)) 𝓜 𝓡 code.env #tray·after after-def.routine code.calls-tray·Seat·after (after-thm.met 𝓤 H 𝓜 𝓖 𝓡))
-    (cited 𝓤 H (Judged 𝓤 H (𝓖 .A) (𝓜 .mem) (𝓡 .run)) 𝓜 𝓡 code.env #tray·verdict verdict-def.routine code.calls-tray·Seat·verdict (verdict-thm.met 𝓤 H 𝓜 𝓖 𝓡)))
+    (cited 𝓤 H (AfterContract 𝓤 H (𝓖 .A) (𝓜 .mem) (𝓡 .run)) 𝓜 𝓡 code.env #tray·after after-def.routine code.calls-tray·Seat·after (after-thm.met 𝓤 H 𝓜 𝓖 𝓡))
+    (cited 𝓤 H (VerdictContract 𝓤 H (𝓖 .A) (𝓜 .mem) (𝓡 .run)) 𝓜 𝓡 code.env #tray·verdict verdict-def.routine code.calls-tray·Seat·verdict (verdict-thm.met 𝓤 H 𝓜 𝓖 𝓡)))

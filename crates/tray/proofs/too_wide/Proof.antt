@@ -1,4 +1,4 @@
--- 2 to the power of the width is the shift, which loses no bit at a width of 32 or less.
+-- The shift is 2 to the power of the width: at a width of 32 or less it loses no bit.
 use Prim.Native.Nat.{_^_, _<_}
 use native.Mathlib.Nat.{one-mul, mod-eq-of-lt}
 use borrow.Author.Needs.{needs}

@@ -1,4 +1,4 @@
--- The loop's invariant: there are eleven numbers, and the one that is being read is among them.
+-- The loop's invariant: there are eleven numbers, and `field`, the one being read, is among them.
 use Prim.Native.Nat.{_-_, _<_, _≤_}
 use mathlib.Core.Path.{_≡_}
 use native.Mathlib.Omega.{arith}
@@ -18,7 +18,7 @@ loop-holds c = omega arith
 reply-requires : tie.Need-reply-requires Inv-loop μ-loop
 reply-requires c κs = omega arith
 
--- behind a line's end, a tab and a digit
+-- after the end of a line, after a tab, and after a digit
 loop-again : tie.Need-loop-again Inv-loop μ-loop
 loop-again c = simp length-set (omega arith)
 

@@ -1,4 +1,4 @@
--- Each kind of answer has its number and its key.
+-- For each kind of answer the code packs its number and its key.
 use Rattle.pretree.specs.Answer.{numberOf, keyOf}
 use Rattle.words.specs.Packed.{packed}
 use Rattle.words.proofs.packed.Statement.{statement}

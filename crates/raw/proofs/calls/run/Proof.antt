@@ -1,4 +1,4 @@
--- `keep` and `fresh` are the two branches.
+-- The two branches are `keep` and `fresh`.
 use mathlib.Core.Path.{refl, ap, _∙_}
 use borrow.Author.Needs.{needs}
 use Rattle.pretree.specs.declared.Reply.{Reply}

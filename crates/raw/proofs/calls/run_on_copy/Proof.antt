@@ -1,4 +1,4 @@
--- The copy is the table, and the buffer is blank, when the call is run on them.
+-- When the call runs, the copy has the table's words and the buffer is blank.
 use borrow.Author.Needs.{needs}
 use Rattle.raw.proofs.calls.run_on_copy.Statement.{statement}
 use Rattle.raw.proofs.calls.run_on_copy.Tie as tie

@@ -1,4 +1,4 @@
--- The call runs on the first words of each array.
+-- The call runs on the first words of each array, those that were set.
 use borrow.Author.Needs.{needs}
 use Rattle.raw.proofs.Lending.{run-on-first}
 use Rattle.raw.proofs.calls.run_on_prefixes.Statement.{statement}

@@ -1,4 +1,4 @@
--- The loop stays between the start and the end of the line.
+-- The loop's invariant: the index is between the start and the end of the line.
 use Prim.Native.Nat.{_-_, _≤_}
 use lib.ListN.{length}
 use borrow.Author.Needs.{needs}

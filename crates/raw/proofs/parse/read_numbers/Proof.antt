@@ -1,4 +1,4 @@
--- No more numbers than there is room for, and each field begins behind the one before.
+-- The loop's invariant: no more numbers than there is room for, and the next field begins within the line.
 use Prim.Native.Nat.{_-_, _≤_}
 use lib.ListN.{length}
 use borrow.Author.Needs.{needs}

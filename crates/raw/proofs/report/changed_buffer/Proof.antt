@@ -1,4 +1,4 @@
--- The loop stays within the buffer.
+-- The loop's invariant: the index is within the buffer.
 use Prim.Native.Nat.{_-_, _≤_}
 use lib.ListN.{length}
 use borrow.Author.Needs.{needs}

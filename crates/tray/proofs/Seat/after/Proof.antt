@@ -1,4 +1,4 @@
--- A sample that is counted is counted once, and any other leaves the record.
+-- A counted sample is counted once. A refusal leaves the record as it was.
 use Prim.Native.Nat.{_<_}
 use mathlib.Core.Path.{_≡_, refl, sym, ap, _∙_}
 use mathlib.Core.Bool.{true, false}
@@ -9,7 +9,7 @@ use lib.Dec.{ltb}
 use Rattle.tray.specs.declared.Verdict.{Verdict}
 use Rattle.tray.specs.declared.Verdict.the-variants.{Counted, WrongWidth, WordTooWide, NoSuchSeat, LowCutoff, Damage}
 use Rattle.tray.specs.Seat.{verdict, isCounted, after}
-use Rattle.tray.proofs.Checks.{Passed, passed, Sound, sound, window-small}
+use Rattle.tray.proofs.Checks.{Passed, passed, Undamaged, undamaged, window-bounds}
 use Rattle.tray.proofs.Tags.{later}
 use Rattle.tray.proofs.Verdict.{the-type}
 use Rattle.tray.proofs.Seat.after.Statement.{statement}
@@ -24,21 +24,12 @@ refused NoSuchSeat h = refl
 refused LowCutoff h = refl
 refused Damage h = refl
 
-verdict-requires : tie.Need-verdict-requires
-verdict-requires c κs = search needs
-
-enum-told : tie.Need-enum-told
-enum-told c = search needs
-
-window-requires : tie.Need-window-requires
-window-requires c κs = search needs
-
 counted-requires : tie.Need-counted-requires
 counted-requires c κs =
     let a = c .before .before .before .before .args in
     let is : isCounted (verdict (ltb (a .seat) 64) (a .self) (a .sample)) ≡ true = ap isCounted (sym (c .before .before .before .verdict .ensures) ∙ c .before .enum-told .given .1) in
-    let r = sound _ _ (passed (ltb (a .seat) 64) (a .self) (a .sample) is .whole) in
-    omega (arith, r .place, r .count, window-small (a .sample .width))
+    let r = undamaged _ _ (passed (ltb (a .seat) 64) (a .self) (a .sample) is .undamaged) in
+    omega (arith, r .place, r .count, window-bounds (a .sample .width) .1)
 
 returns : tie.Need-returns
 unfolding after
@@ -58,4 +49,4 @@ returns-2 c =
 pub after-spec : {M : Type 1} → statement M
 after-spec =
     tie.close
-    (tie.spec verdict-requires enum-told window-requires counted-requires returns returns-2)
+    (tie.spec (λ c κs. search needs) (λ c. search needs) (λ c κs. search needs) counted-requires returns returns-2)

@@ -1,15 +1,9 @@
--- Only a sample that is the window's word alarms.
+-- Only the window's word can alarm.
 use mathlib.Core.Path.{sym, _∙_}
 use borrow.Author.Needs.{needs}
 use Rattle.tray.specs.Seat.{proportionAlarm}
 use Rattle.tray.proofs.Seat.proportion_alarm.Statement.{statement}
 use Rattle.tray.proofs.Seat.proportion_alarm.Tie as tie
-
-is-window-word-requires : tie.Need-is-window-word-requires
-is-window-word-requires c κs = search needs
-
-count-with-requires : tie.Need-count-with-requires
-count-with-requires c κs = search needs
 
 returns : tie.Need-returns
 unfolding proportionAlarm
@@ -20,4 +14,4 @@ unfolding proportionAlarm
 returns-2 c = simp (sym (c .before .is-window-word .ensures) ∙ c .if1 .left)
 
 pub proportion-alarm-spec : {M : Type 1} → statement M
-proportion-alarm-spec = tie.close (tie.spec is-window-word-requires count-with-requires returns returns-2)
+proportion-alarm-spec = tie.close (tie.spec (λ c κs. search needs) (λ c κs. search needs) returns returns-2)

@@ -1,4 +1,4 @@
--- Each test of the code is one of the definition's.
+-- The code's tests are the definition's: a run is 0 or greater than 0.
 use native.Mathlib.Nat.{pos-of-ne-zero}
 use Prim.Native.Nat.{_≤_}
 use borrow.Author.Tests.{lt-ltb, le-ltb}

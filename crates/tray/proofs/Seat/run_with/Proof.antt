@@ -1,17 +1,11 @@
--- A run at its top stays there, and any other goes up by one with a repeat.
-use Prim.Native.Nat.{suc, _≤_, min}
+-- A repeat raises the run by 1, unless it is at its top. Any other word starts a run of 1.
+use Prim.Native.Nat.{suc, min}
 use mathlib.Core.Path.{_≡_, sym, _∙_}
 use native.Mathlib.Omega.{arith}
 use borrow.Author.Needs.{needs}
 use Rattle.tray.specs.Seat.{runWith}
 use Rattle.tray.proofs.Seat.run_with.Statement.{statement}
 use Rattle.tray.proofs.Seat.run_with.Tie as tie
-
-repeats-requires : tie.Need-repeats-requires
-repeats-requires c κs = search needs
-
-add-result : tie.Need-add-result
-add-result c = search needs
 
 returns : tie.Need-returns
 unfolding runWith
@@ -32,4 +26,4 @@ unfolding runWith
 returns-3 c = simp (sym (c .before .repeats .ensures) ∙ c .if1 .left)
 
 pub run-with-spec : {M : Type 1} → statement M
-run-with-spec = tie.close (tie.spec repeats-requires add-result returns returns-2 returns-3)
+run-with-spec = tie.close (tie.spec (λ c κs. search needs) (λ c. search needs) returns returns-2 returns-3)

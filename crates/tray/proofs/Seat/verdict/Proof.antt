@@ -1,104 +1,87 @@
--- Each test of the code is one of the definition's, in the same order.
-use Prim.Native.Nat.{ℕ, _≤_, _<_}
-use mathlib.Core.Path.{_≡_, refl, sym, _∙_}
-use mathlib.Core.Bool.{Bool, true, false, _||_}
+-- The code makes the definition's tests, in the same order.
+use mathlib.Core.Path.{_≡_, sym, _∙_}
+use mathlib.Core.Bool.{false, cond}
 use native.Mathlib.Omega.{arith}
-use lib.Dec.{eqb, ltb}
+use lib.Dec.{ltb}
 use borrow.Author.Needs.{needs}
-use borrow.Author.Tests.{lt-ltb, le-ltb, ltb-false}
-use Rattle.tray.specs.Seat.{wrong-width, verdict}
-use Rattle.tray.proofs.Checks.{at-most-32, Sound, sound, window-small}
+use borrow.Author.Tests.{lt-ltb, le-ltb}
+use Rattle.tray.specs.declared.Verdict.the-variants.{Counted, Damage}
+use Rattle.tray.specs.Seat.{wrong-width, too-wide, damaged, window, repetitionAlarm, proportionAlarm, verdict}
+use Rattle.tray.proofs.Checks.{at-most-32, Undamaged, undamaged, window-bounds}
 use Rattle.tray.proofs.Seat.verdict.Statement.{statement}
 use Rattle.tray.proofs.Seat.verdict.Tie as tie
 
-wrong-width-requires : tie.Need-wrong-width-requires
-wrong-width-requires c κs = search needs
+-- the start of the function, from the place after the test of the word
+abbrev start : tie.Else2 → tie.Start
+start c = c .before .before .before .before
+
+width-passed : (c : tie.Else1) → wrong-width (c .before .before .args .sample .width) ≡ false
+width-passed c = sym (c .before .wrong-width .ensures) ∙ c .if1 .left
+
+word-passed : (c : tie.Else2) → too-wide (start c .args .sample .width) (start c .args .sample .word) ≡ false
+word-passed c = sym (c .before .too-wide .ensures) ∙ c .if2 .left
 
 returns : tie.Need-returns
 unfolding verdict
 returns c = simp (sym (c .before .wrong-width .ensures) ∙ c .if1 .taken)
 
-too-wide-requires : tie.Need-too-wide-requires
-too-wide-requires c κs = at-most-32 _ (sym (c .before .wrong-width .ensures) ∙ c .if1 .left)
-
 returns-2 : tie.Need-returns-2
 unfolding verdict
-returns-2 c =
-    simp (
-      sym (c .before .before .before .wrong-width .ensures) ∙ c .before .before .if1 .left,
-      sym (c .before .too-wide .ensures) ∙ c .if2 .taken,
-    )
+returns-2 c = simp (width-passed (c .before .before), sym (c .before .too-wide .ensures) ∙ c .if2 .taken)
 
 returns-3 : tie.Need-returns-3
 unfolding verdict
-returns-3 c =
-    let e = c .before .before .before in
-    simp (
-      sym (e .before .wrong-width .ensures) ∙ e .if1 .left,
-      sym (c .before .before .too-wide .ensures) ∙ c .before .if2 .left,
-      le-ltb _ _ (c .if3 .taken),
-    )
-
-low-cutoff-requires : tie.Need-low-cutoff-requires
-low-cutoff-requires c κs = search needs
+returns-3 c = simp (width-passed (c .before .before .before), word-passed (c .before), le-ltb _ _ (c .if3 .taken))
 
 returns-4 : tie.Need-returns-4
 unfolding verdict
 returns-4 c =
-    let f = c .before .before .before in
-    let e = f .before .before in
+    let seat = c .before .before in
+    let word = seat .before in
     simp (
-      sym (e .before .wrong-width .ensures) ∙ e .if1 .left,
-      sym (f .before .too-wide .ensures) ∙ f .if2 .left,
-      lt-ltb _ _ (c .before .before .if3 .left),
+      width-passed (word .before .before),
+      word-passed word,
+      lt-ltb _ _ (seat .if3 .left),
       sym (c .before .low-cutoff .ensures) ∙ c .if4 .taken,
     )
 
-window-requires : tie.Need-window-requires
-window-requires c κs = search needs
-
-damaged-requires : tie.Need-damaged-requires
-damaged-requires c κs = search needs
-
-returns-5 : tie.Need-returns-5
+-- After the tests of the sample and the seat, the record decides.
+by-record : (c : tie.Else4)
+    → let a = start (c .before .before .before) .args in
+    let r = a .self in
+    let s = a .sample in
+    verdict (ltb (a .seat) 64) r s
+    ≡ cond (damaged (window (s .width)) r) Damage (Counted (repetitionAlarm r (s .repetition) (s .word)) (proportionAlarm r (s .proportion) (s .word)))
 unfolding verdict
-returns-5 c =
-    let h = c .before .before .before in
-    let g = h .before .before in
-    let f = g .before in
-    let e = f .before .before in
+by-record c =
+    let seat = c .before .before in
+    let word = seat .before in
     simp (
-      sym (e .before .wrong-width .ensures) ∙ e .if1 .left,
-      sym (f .before .too-wide .ensures) ∙ f .if2 .left,
-      lt-ltb _ _ (g .if3 .left),
-      sym (h .before .low-cutoff .ensures) ∙ h .if4 .left,
-      ← c .before .before .window .ensures,
-      sym (c .before .damaged .ensures) ∙ c .if5 .taken,
+      width-passed (word .before .before),
+      word-passed word,
+      lt-ltb _ _ (seat .if3 .left),
+      sym (c .before .low-cutoff .ensures) ∙ c .if4 .left,
     )
 
-repetition-alarm-requires : tie.Need-repetition-alarm-requires
-repetition-alarm-requires c κs = search needs
+returns-5 : tie.Need-returns-5
+returns-5 c =
+    let w = c .before .before in
+    simp (by-record (w .before), ← w .window .ensures, sym (c .before .damaged .ensures) ∙ c .if5 .taken)
 
 proportion-alarm-requires : tie.Need-proportion-alarm-requires
 proportion-alarm-requires c κs =
     let d = c .before .before in
-    let r = sound _ _ (sym (d .damaged .ensures) ∙ c .before .if5 .left) in
-    omega (arith, r .place, r .count, d .before .window .ensures, window-small (d .before .before .before .before .before .before .before .before .before .args .sample .width))
+    let w = d .before in
+    let r = undamaged _ _ (sym (d .damaged .ensures) ∙ c .before .if5 .left) in
+    omega (arith, r .place, r .count, w .window .ensures, window-bounds (start (w .before .before .before .before) .args .sample .width) .1)
 
 returns-6 : tie.Need-returns-6
-unfolding verdict
 returns-6 c =
     let i = c .before .before in
-    let h = i .before .before .before in
-    let g = h .before .before in
-    let f = g .before in
-    let e = f .before .before in
+    let w = i .before .before in
     simp (
-      sym (e .before .wrong-width .ensures) ∙ e .if1 .left,
-      sym (f .before .too-wide .ensures) ∙ f .if2 .left,
-      lt-ltb _ _ (g .if3 .left),
-      sym (h .before .low-cutoff .ensures) ∙ h .if4 .left,
-      ← i .before .before .window .ensures,
+      by-record (w .before),
+      ← w .window .ensures,
       sym (i .before .damaged .ensures) ∙ i .if5 .left,
       c .before .repetition-alarm .ensures,
       c .proportion-alarm .ensures,
@@ -108,16 +91,16 @@ pub verdict-spec : {M : Type 1} → statement M
 verdict-spec =
     tie.close
     (tie.spec
-    wrong-width-requires
+    (λ c κs. search needs)
     returns
-    too-wide-requires
+    (λ c κs. at-most-32 _ (width-passed c))
     returns-2
     returns-3
-    low-cutoff-requires
+    (λ c κs. search needs)
     returns-4
-    window-requires
-    damaged-requires
+    (λ c κs. search needs)
+    (λ c κs. search needs)
     returns-5
-    repetition-alarm-requires
+    (λ c κs. search needs)
     proportion-alarm-requires
     returns-6)
