@@ -1,5 +1,5 @@
 -- Demand 2 of `add`: its writes do to the table what the push does to the tree, so the table shows the tree of the set with the word in it.
-use Prim.Native.Nat.{ℕ, zero, suc, pred, _+_, _*_, _^_, _<_, _≤_}
+use Prim.Native.Nat.{ℕ, zero, suc, pred, _^_, _<_, _≤_}
 use mathlib.Core.Path.{_≡_, refl, sym, ap, _∙_}
 use mathlib.Core.Bool.{Bool, true, false, _||_}
 use mathlib.Core.List.{List, [], _∷_, _++_}
@@ -8,7 +8,7 @@ use native.Mathlib.Omega.{arith}
 use lib.Dec.{ltb, leb, eqb}
 use lib.ListN.{length}
 use borrow.Author.Tests.{ltb-false, leb-false, lt-ltb, le-ltb, eqb-false, ne-eqb}
-use Rattle.ordered.specs.Such.{if_then_else_, Perhaps, no-such, such, first-of, first-such, last-such, anything, isThere}
+use Rattle.ordered.specs.Such.{if_then_else_, no-such, such, first-of, first-such, last-such, anything, isThere}
 use Rattle.ordered.specs.Dictionary.{Entry, words, insert, lookup}
 use Rattle.ordered.specs.Word.{Side, left, right, side}
 use Rattle.ordered.specs.Said.{_∈_}
@@ -28,7 +28,7 @@ use Rattle.pretree.specs.declared.Header.{Header}
 use Rattle.pretree.specs.declared.Answer.the-variants.{Done, WordTooWide, Full, AlreadyThere}
 use Rattle.pretree.specs.declared.Row.{Row}
 use Rattle.pretree.specs.Answer.{numberOf, keyOf}
-use Rattle.pretree.specs.Table.{rowWords, capacity, rowAt, leafRow, withRow}
+use Rattle.pretree.specs.Table.{capacity, rowAt, leafRow, withRow}
 use Rattle.pretree.specs.Unfold.{unfolded, shown}
 use Rattle.pretree.specs.Reply.{wrong-width, wrong-header, too-wide, refused, answered}
 use Rattle.pretree.specs.Add.{entryFor, Outcome, taking, hooking, grown, addOutcome}

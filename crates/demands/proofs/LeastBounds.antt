@@ -8,13 +8,13 @@ use native.Mathlib.Omega.{arith}
 use lib.Dec.{leb, eqb}
 use lib.Pow.{pow-pos, pow-mono, pow-lt, ones-lt}
 use lib.ListN.{length, replicate, length-append, length-replicate}
-use borrow.Author.Tests.{le-ltb, lt-leb, eqb-false, eq-eqb, ne-eqb}
+use borrow.Author.Tests.{le-ltb, lt-leb, eqb-false, ne-eqb}
 use Rattle.ordered.specs.Such.{if_then_else_, first-such, isThere}
 use Rattle.ordered.specs.Dictionary.{Entry, Increasing, none-increasing, one-increasing, lookup}
 use Rattle.ordered.specs.Said.{_∈_}
 use Rattle.ordered.specs.Word.{right}
-use Rattle.ordered.specs.Tree.{row, treeOf}
-use Rattle.ordered.specs.Way.{to, way, rows, following}
+use Rattle.ordered.specs.Tree.{treeOf}
+use Rattle.ordered.specs.Way.{way, rows, following}
 use Rattle.ordered.specs.Change.{erasing}
 use Rattle.ordered.proofs.Lists.{above-less}
 use Rattle.ordered.proofs.Dictionary.{lookup-whether}
@@ -34,7 +34,7 @@ use Rattle.demands.specs.Reached.{chain, parted-chain, forked-chain, ent
 use Rattle.demands.proofs.RowsRead.{rows-exact, rows-bounded}
 use Rattle.demands.proofs.Added.{shown-spelled}
 use Rattle.demands.proofs.Removed.{three-rows}
-use Rattle.demands.proofs.Making.{keeping, words-for, length-for, made, last-key, greatest-last}
+use Rattle.demands.proofs.Making.{keeping, words-for, made, last-key, greatest-last}
 use Rattle.demands.proofs.Reached.{top, top-step, reached, less-one, fork-tree, fork-set, greatest, greatest-top, greatest-rows, hole-of-one, reached-beyond}
 
 chain-length : (m p : ℕ) → length (chain m p) ≡ m + 1

@@ -1,7 +1,7 @@
 -- Demand 1: the proofs of specs/Refusals.antt. The tests of each call are gone through once, from the first down ("Order: 9, 1, 2, 3, 4, then
 -- 7 or 8, then 5. For `list`: 2, 4, 6."), and all that the demand says of its number is read off what is seen on the way.
 use Prim.Native.Nat.{ℕ, suc, _*_, _^_, _<_, pred}
-use mathlib.Core.Path.{_≡_, refl, sym, ap, _∙_}
+use mathlib.Core.Path.{_≡_, refl, sym, _∙_}
 use mathlib.Core.Logic.{_↔_, Iff·symm, _⊎_, inl, inr}
 use mathlib.Core.Bool.{Bool, true, false, not, _&&_, _||_, or-false, false≢true}
 use mathlib.Core.List.{List, [], _∷_, _++_}
@@ -9,7 +9,6 @@ use native.Mathlib.Omega.{arith}
 use native.Mathlib.Nat.{add-zero}
 use lib.Dec.{ltb, eqb}
 use lib.ListN.{length, drop, replicate}
-use borrow.Author.Tests.{eqb-true, eqb-false}
 use Rattle.ordered.specs.Such.{if_then_else_, Perhaps, no-such, such}
 use Rattle.ordered.specs.Said.{Whether}
 use Rattle.ordered.specs.Tree.{listing}
@@ -39,7 +38,7 @@ use Rattle.demands.specs.Damage.{DamageOn, Absent}
 use Rattle.demands.proofs.SoundIs.{sound-is}
 use Rattle.demands.proofs.Damage.{damageTest, damage-tested, absent-tested}
 use Rattle.demands.proofs.Owned.{same-all, new-kept, add-kept, del-kept, list-kept}
-use Rattle.demands.proofs.Whether.{fails, holds, never, both-tested, either-tested, not-tested, less-tested, at-most-tested, equal-tested}
+use Rattle.demands.proofs.Whether.{fails, holds, both-tested, either-tested, less-tested, at-most-tested, equal-tested}
 
 -- none of the conditions holds
 abbrev NoneGiven : List Check → Type 0

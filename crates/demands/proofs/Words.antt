@@ -1,6 +1,6 @@
 -- Laws of the words of a list of entries.
 use Prim.Native.Nat.{ℕ}
-use mathlib.Core.Path.{_≡_, refl}
+use mathlib.Core.Path.{refl}
 use mathlib.Core.List.{List, [], _∷_}
 use mathlib.Core.List.{List·Memᴰ·head, List·Memᴰ·tail}
 use Rattle.ordered.specs.Dictionary.{Entry, words}
