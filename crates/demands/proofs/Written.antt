@@ -15,13 +15,13 @@ use Rattle.ordered.specs.Dictionary.{Entry, words, Increasing}
 use Rattle.ordered.specs.Said.{_∈_}
 use Rattle.ordered.specs.Tree.{Tree, none, row, damaged, part, exists, entries, listing, size, intact, unnumbered, treeOf}
 use Rattle.ordered.specs.Proper.{Fitting, Proper}
-use Rattle.ordered.proofs.Parts.{All, none-all, one-all, all-append, each-of-all, AllWords, words-append}
+use Rattle.ordered.proofs.Parts.{All, none-all, all-append, each-of-all, AllWords, words-append}
 use Rattle.ordered.proofs.OneTree.{set-proper, set-entries, set-unnumbered, proper-intact, entries-length}
 use Rattle.pretree.specs.declared.Header.{Header}
 use Rattle.pretree.specs.declared.Row.{Row}
 use Rattle.pretree.specs.Table.{rowWords, rowAt, toCode, link}
 use Rattle.pretree.specs.Unfold.{ends-there, linked, unfolded, shown}
-use Rattle.pretree.proofs.Rows.{rowAsWords, row-read}
+use Rattle.pretree.proofs.Rows.{rowAsWords, each-in-row, row-read}
 use Rattle.demands.specs.SoundIs.{EverySetHasRows}
 use Rattle.demands.proofs.Unfolding.{both, key, hanging, shown-row}
 use Rattle.demands.proofs.SoundIs.{set-fits, tree-intact, tree-entries, held-by-entries}
@@ -172,12 +172,12 @@ module _ (W n : ℕ) where
       let b = both (intact l) (intact r) whole in
       let below : (x : ℕ) → x ∈ listing l ++ listing r → x < 2 ^ W =
       λ x there. small x (List·Memᴰ·tail (rw (words-append (entries l) (entries r)) there)) in
-      one-all (inl (small (e .key) (List·Memᴰ·head refl)))
-      (one-all (inr (link-small k l (b .0) (omega arith)))
-      (one-all (inr (link-small (k + size l) r (b .1) (omega arith)))
+      all-append
+      (each-in-row Word (row-of k e l r) (inl (small (e .key) (List·Memᴰ·head refl)))
+      (elim [ left ↦ inr (link-small k l (b .0) (omega arith)) | right ↦ inr (link-small (k + size l) r (b .1) (omega arith)) ]))
       (all-append
       (written-words (place left k l) l (b .0) (λ x there. below x (Memᴰ·append-left (listing r) there)) (omega arith))
-      (written-words (place right k l) r (b .1) (λ x there. below x (Memᴰ·append-right (listing l) there)) (omega arith)))))
+      (written-words (place right k l) r (b .1) (λ x there. below x (Memᴰ·append-right (listing l) there)) (omega arith)))
   written-words k damaged whole small room = none-all
 
 pub every-set-has-rows : EverySetHasRows

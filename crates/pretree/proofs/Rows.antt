@@ -1,7 +1,7 @@
 -- The laws of a table's rows under the three writes: what stands in the row that is written, that every other row and every word past the rows
 -- stays, and that the length stays. Other files and crates use these and look at no word of a row themselves.
 use Prim.Native.Nat.{ℕ, suc, _+_, _*_, _≤_, _<_}
-use mathlib.Core.Path.{_≡_, refl, sym, ap, _∙_}
+use mathlib.Core.Path.{_≡_, refl, ap, _∙_}
 use mathlib.Core.List.{List, [], _∷_, _++_}
 use native.Mathlib.Numerals.{add-one, add-two}
 use native.Mathlib.Omega.{arith}
@@ -12,6 +12,7 @@ use Rattle.ordered.specs.Dictionary.{Entry}
 use Rattle.ordered.specs.Word.{Side, left, right, bitOf}
 use Rattle.ordered.specs.Way.{Step}
 use Rattle.ordered.specs.Change.{Take}
+use Rattle.ordered.proofs.Parts.{All, none-all, one-all}
 use Rattle.pretree.specs.declared.Row.{Row}
 use Rattle.pretree.specs.Table.{rowWords, capacity, toCode, rowAt, link, withEntry, withLink, withRow, cleared}
 use Rattle.pretree.specs.Add.{taking, hooking}
@@ -196,10 +197,15 @@ zero-row table i zeros =
       zeros (rowWords * i + 2) (omega arith) (omega arith),
     )
 
--- a row as words, and the row that is read where they stand
+-- a row as words
 abbrev pub rowAsWords : Row → List ℕ
 rowAsWords r = r .entry .key ∷ r .left ∷ r .right ∷ []
 
+-- what holds of the word of its entry and of both links holds of each of its words
+pub each-in-row : (P : ℕ → Type 0) (r : Row) → P (r .entry .key) → ((s : Side) → P (link r s)) → All P (rowAsWords r)
+each-in-row P r own links = one-all own (one-all (links left) (one-all (links right) none-all))
+
+-- the row that is read where those words stand
 pub row-read : (i : ℕ) (r : Row) (before rest : List ℕ) → length before ≡ rowWords * i → rowAt (before ++ (rowAsWords r ++ rest)) i ≡ r
 unfolding rowAt
 row-read i r before rest at =
