@@ -1,74 +1,77 @@
 -- Demand 2 of `add`: its writes do to the table what the push does to the tree, so the table shows the tree of the set with the word in it.
-use Prim.Native.Nat.{ℕ, zero, suc, pred, _+_, _*_, _^_, _<_, _≤_}
+use Prim.Native.Nat.{ℕ, zero, suc, pred, _^_, _<_, _≤_}
 use mathlib.Core.Path.{_≡_, refl, sym, ap, _∙_}
 use mathlib.Core.Bool.{Bool, true, false, _||_}
 use mathlib.Core.List.{List, [], _∷_, _++_}
 use mathlib.Core.List.{List·Memᴰ·head, List·Memᴰ·tail, Memᴰ·append-left, Memᴰ·append-right}
 use native.Mathlib.Omega.{arith}
 use lib.Dec.{ltb, leb, eqb}
-use lib.ListN.{length, set}
+use lib.ListN.{length}
 use borrow.Author.Tests.{ltb-false, leb-false, lt-ltb, le-ltb, eqb-false, ne-eqb}
-use Rattle.ordered.specs.Such.{if_then_else_, last-such, anything}
-use Rattle.ordered.specs.Dictionary.{insert, lookup}
+use Rattle.ordered.specs.Such.{if_then_else_, no-such, such, first-of, first-such, last-such, anything, isThere}
+use Rattle.ordered.specs.Dictionary.{Entry, words, insert, lookup}
 use Rattle.ordered.specs.Word.{Side, left, right, side}
 use Rattle.ordered.specs.Said.{_∈_}
-use Rattle.ordered.specs.Tree.{Tree, none, row, damaged, Entry, part, exists, listing, intact}
+use Rattle.ordered.specs.Tree.{Tree, none, row, damaged, part, exists, entries, listing, intact}
 use Rattle.ordered.specs.Proper.{Fitting, Proper}
 use Rattle.ordered.specs.Way.{Step, Way, way, rows, joined, following, pushing}
 use Rattle.ordered.specs.Change.{Adding, adding, adding-by, ends-at, pushed, left-over, numberAt}
 use Rattle.ordered.specs.Grown.{linking as turned, linked as chained, shifted, pushed-tree, grown as grown-tree}
-use Rattle.ordered.proofs.Parts.{all-of-each, each-of-all, no-lookup}
+use Rattle.ordered.proofs.Parts.{no-lookup, words-append}
 use Rattle.ordered.proofs.OneTree.{root-fits, proper-intact}
 use Rattle.ordered.proofs.Ways.{linked-again}
 use Rattle.ordered.proofs.Moves.{taken-by, shifted-takes, linked-append}
-use Rattle.ordered.proofs.Grown.{grown-proper, grown-listing}
+use Rattle.ordered.proofs.Grown.{grown-proper, grown-entries}
 use Rattle.ordered.proofs.Answers.{adding-present}
 use Rattle.ordered.proofs.Unbroken.{adding-unbroken}
 use Rattle.pretree.specs.declared.Header.{Header}
 use Rattle.pretree.specs.declared.Answer.the-variants.{Done, WordTooWide, Full, AlreadyThere}
 use Rattle.pretree.specs.declared.Row.{Row}
 use Rattle.pretree.specs.Answer.{numberOf, keyOf}
-use Rattle.pretree.specs.Table.{capacity, rowAt, withRow}
+use Rattle.pretree.specs.Table.{capacity, rowAt, leafRow, withRow}
 use Rattle.pretree.specs.Unfold.{unfolded, shown}
 use Rattle.pretree.specs.Reply.{wrong-width, wrong-header, too-wide, refused, answered}
-use Rattle.pretree.specs.Add.{Outcome, taking, hooking, grown, addOutcome}
+use Rattle.pretree.specs.Add.{entryFor, Outcome, taking, hooking, grown, addOutcome}
 use Rattle.pretree.proofs.Writing.{same-capacity}
+use Rattle.pretree.proofs.Rows.{HasRow, has-row, rows-fit, row-written, row-elsewhere, taking-length, hooking-length}
 use Rattle.pretree.specs.declared.Call.the-variants.{Add}
 use Rattle.pretree.specs.Call.{After, after}
 use Rattle.demands.specs.Expected.{Said, Kept, only, expected, changed, kept-after}
 use Rattle.demands.specs.Demand2.{Holding, Keeps, keptBy, KeepsDictionary}
+use Rattle.demands.proofs.Words.{all-words}
 use Rattle.demands.proofs.Tested.{shown-as, shown-once}
 use Rattle.demands.proofs.Owned.{added-kept}
-use Rattle.demands.proofs.SoundIs.{held-by-listing}
-use Rattle.demands.proofs.Answered.{undamaged, lists, proper, narrow, nothing-changed}
+use Rattle.demands.proofs.SoundIs.{held-by-entries}
+use Rattle.demands.proofs.Answered.{undamaged, holds-entries, proper, narrow, nothing-changed}
 use Rattle.demands.proofs.Spelled.{Told, Spelled, no-row, a-row, root-number, unfolded-spelled, spelled-shows}
-use Rattle.demands.proofs.Writes.{row-written, row-elsewhere, taking-length, hooking-length}
 use Rattle.demands.proofs.Rewritten.{Once, Same-places, no-place, one-place, same-places, shifted-places, joined-places, same-numbers, none-part, entries-taken, end-hooked, unchanged-taken, taking-both}
 
 -- a set with one word more
-insert-length : (x : ℕ) (s : List ℕ) → lookup x s ≡ false → length (insert x s) ≡ suc (length s)
-unfolding insert lookup
-insert-length x [] out = refl
-insert-length x (y ∷ ys) out = by-cases (ltb x y) (eqb x y) out (insert-length x ys)
+insert-length : (e : Entry) (s : List Entry) → isThere (lookup (e .key) s) ≡ false → length (insert e s) ≡ suc (length s)
+unfolding insert lookup first-such
+insert-length e [] out = refl
+insert-length e (f ∷ s) out = by-cases (ltb (e .key) (f .key)) (eqb (e .key) (f .key)) out (insert-length e s)
   where
-    by-cases : (a b : Bool) → (b || lookup x ys) ≡ false → (lookup x ys ≡ false → length (insert x ys) ≡ suc (length ys))
-        → length (if a then x ∷ y ∷ ys else if b then y ∷ ys else y ∷ insert x ys) ≡ suc (suc (length ys))
+    by-cases : (a b : Bool) → isThere (first-of (if b then such f else no-such) (lookup (e .key) s)) ≡ false
+        → (isThere (lookup (e .key) s) ≡ false → length (insert e s) ≡ suc (length s))
+        → length (if a then e ∷ f ∷ s else if b then e ∷ s else f ∷ insert e s) ≡ suc (suc (length s))
     by-cases true b out rest = refl
     by-cases false true out rest = let never : _≡_ {A = ℕ} 0 1 = cc in omega arith
     by-cases false false out rest = ap suc (rest out)
 
 -- a word greater than all others is not among them
-pub greatest-absent : (x : ℕ) (S : List ℕ) → ((y : ℕ) → y ∈ S → y < x) → lookup x S ≡ false
-greatest-absent x S greatest = no-lookup x S (all-of-each S (λ y there. ne-eqb x y (λ same. omega (arith, greatest y there))))
+pub greatest-absent : (x : ℕ) (S : List Entry) → ((y : ℕ) → y ∈ words S → y < x) → isThere (lookup x S) ≡ false
+greatest-absent x S greatest =
+    ap isThere (no-lookup x S (all-words S (λ y there. ne-eqb x y (λ same. omega (arith, greatest y there)))))
 
-in-part : (s : Side) (l r : Tree) {y : ℕ} → y ∈ listing (part s l r) → y ∈ listing l ++ listing r
-in-part left l r there = Memᴰ·append-left (listing r) there
-in-part right l r there = Memᴰ·append-right (listing l) there
+in-part : (s : Side) (l r : Tree) {y : ℕ} → y ∈ listing (part s l r) → y ∈ words (entries l ++ entries r)
+in-part left l r there = rw (words-append (entries l) (entries r)) (Memᴰ·append-left (listing r) there)
+in-part right l r there = rw (words-append (entries l) (entries r)) (Memᴰ·append-right (listing l) there)
 
 -- An `add` of a word greater than all others pushes nothing: its way meets no key that is the word's or more.
 nothing-pushed :
     (x m : ℕ) (t : Tree) → ((y : ℕ) → y ∈ listing t → y < x) → let w : Way = way (following x) m t in way pushing (w .bits) (w .end) .passed ≡ []
-unfolding way following listing
+unfolding way following entries
 nothing-pushed x zero t greatest = refl
 nothing-pushed x (suc m) none greatest = refl
 nothing-pushed x (suc m) damaged greatest = refl
@@ -77,7 +80,7 @@ nothing-pushed x (suc m) (row i e l r) greatest =
     (nothing-pushed x m (part (side m x) l r) (λ y there. greatest y (List·Memᴰ·tail (in-part (side m x) l r there))))
 
 -- what is shown, row by row
-module _ {h : Header} {table S : List ℕ} (H : Holding h table S) where
+module _ {h : Header} {table : List ℕ} {S : List Entry} (H : Holding h table S) where
   pub shown-spelled : Spelled (rowAt table) (h .count) (shown h table)
   shown-spelled =
       shown-as h table (λ t. intact t ≡ true → Spelled (rowAt table) (h .count) t) (λ u. no-row)
@@ -102,10 +105,6 @@ module _ {h : Header} {table S : List ℕ} (H : Holding h table S) where
   unfolding wrong-header
   has-room = ltb-false (capacity table) (h .count) (neither (wrong-width (h .width)) (ltb (capacity table) (h .count)) (H .right-header) .1)
 
-pub rows-fit : (n : ℕ) (table : List ℕ) → n ≤ capacity table → 3 * n ≤ length table
-unfolding capacity
-rows-fit n table room = omega arith
-
 -- a proper tree that the rows of a table spell from row 0 is what the table shows
 pub shown-so :
     (h : Header) (table : List ℕ) (t : Tree) → (h .count ≡ 0 → ⊥) → Proper (h .width) 0 0 t → Spelled (rowAt table) (h .count) t → exists t ≡ true → numberAt t ≡ 0
@@ -117,9 +116,9 @@ shown-so h table t some p s there root =
 -- the first row of the tree after a push is row 0
 pushed-first :
     {ss us : List Step} → Same-places ss us → (n : ℕ) (e : Entry) (u : Tree) → numberAt (chained ss u) ≡ 0
-    → length (listing (chained us (row n e none none))) ≡ suc n
+    → length (entries (chained us (row n e none none))) ≡ suc n
     → (numberAt (chained us (row n e none none)) ≡ 0) × (exists (chained us (row n e none none)) ≡ true)
-unfolding chained listing
+unfolding chained entries
 pushed-first no-place n e u root whole = (omega arith, refl)
 pushed-first (one-place {s} {ss} {us} f p) n e u root whole = by-side (s .turn) root
   where
@@ -129,18 +128,18 @@ pushed-first (one-place {s} {ss} {us} f p) n e u root whole = by-side (s .turn) 
     by-side left root = (root, refl)
     by-side right root = (root, refl)
 
-module _ (h : Header) (table S : List ℕ) (H : Holding h table S) (k : ℕ) where
+module _ (h : Header) (table : List ℕ) (S : List Entry) (H : Holding h table S) (new-entry : Entry) where
   abbrev t : Tree
   t = shown h table
+
+  abbrev k : ℕ
+  k = new-entry .key
 
   abbrev w : Way
   w = way (following k) (h .width) t
 
   abbrev push : Way
   push = way pushing (w .bits) (w .end)
-
-  abbrev new-entry : Entry
-  new-entry = record { key = k }
 
   abbrev before : List Step
   before = w .passed ++ push .passed
@@ -149,7 +148,7 @@ module _ (h : Header) (table S : List ℕ) (H : Holding h table S) (k : ℕ) whe
   later = w .passed ++ shifted new-entry (push .passed)
 
   abbrev a : Adding
-  a = adding (h .width) k t
+  a = adding (h .width) new-entry t
 
   abbrev more : Header
   more = record { width = h .width; count = suc (h .count) }
@@ -181,12 +180,12 @@ module _ (h : Header) (table S : List ℕ) (H : Holding h table S) (k : ℕ) whe
   module _ (absent : ends-at k w ≡ false) where
     table-after :
         after-add
-        ≡ withRow (h .count) (record { entry = record { key = left-over new-entry (push .passed) .key }; left = 0; right = 0 })
+        ≡ withRow (h .count) (leafRow (left-over new-entry (push .passed)))
         (hooking (last-such anything before) (h .count) (taking (taken-by later) table))
     unfolding grown adding joined
     table-after = rw (absent, taken)
 
-    tree-after : grown-tree (h .count) (h .width) k t ≡ chained later new-row
+    tree-after : grown-tree (h .count) (h .width) new-entry t ≡ chained later new-row
     unfolding grown-tree pushed-tree
     tree-after = rw absent (sym (linked-append (w .passed) (shifted new-entry (push .passed)) new-row))
 
@@ -198,16 +197,17 @@ module _ (h : Header) (table S : List ℕ) (H : Holding h table S) (k : ℕ) whe
       hooked-table = hooking (last-such anything before) (h .count) moved
 
       abbrev last-row : Row
-      last-row = record { entry = record { key = left-over new-entry (push .passed) .key }; left = 0; right = 0 }
+      last-row = leafRow (left-over new-entry (push .passed))
 
-      fits : 3 * h .count + 2 < length hooked-table
+      fits : HasRow hooked-table (h .count)
       fits =
-          omega (
+          has-row hooked-table (h .count) (suc (h .count)) (omega arith)
+          (omega (
             arith,
             rows-fit (suc (h .count)) table room,
             taking-length (taken-by later) table,
             hooking-length (last-such anything before) (h .count) moved,
-          )
+          ))
 
       moved-spelled : Spelled (rowAt moved) (h .count) (chained later (push .end))
       moved-spelled =
@@ -227,7 +227,7 @@ module _ (h : Header) (table S : List ℕ) (H : Holding h table S) (k : ℕ) whe
           } in
           a-row told no-row no-row
 
-      grown-spelled : Spelled (rowAt after-add) (suc (h .count)) (grown-tree (h .count) (h .width) k t)
+      grown-spelled : Spelled (rowAt after-add) (suc (h .count)) (grown-tree (h .count) (h .width) new-entry t)
       grown-spelled =
           rw (table-after, tree-after)
           (end-hooked (h .count) (suc (h .count)) (push .end) new-row moved (rowAt (withRow (h .count) last-row hooked-table))
@@ -244,18 +244,19 @@ module _ (h : Header) (table S : List ℕ) (H : Holding h table S) (k : ℕ) whe
   unfolding adding
   present-is = by-cases (ends-at k w)
     where
-      by-cases : (b : Bool) → adding-by k w push (joined w push) b .present ≡ b
+      by-cases : (b : Bool) → adding-by new-entry w push (joined w push) b .present ≡ b
       by-cases true = refl
       by-cases false = refl
 
   same-long : length after-add ≡ length table
-  same-long = added-kept h table k (suc (h .count)) (omega arith) .same-length
+  same-long = added-kept h table new-entry (suc (h .count)) (omega arith) .same-length
 
   module _ (small : leb (2 ^ h .width) k ≡ false) where
-    present-so : a .present ≡ lookup k S
-    present-so = adding-present (h .width) k 0 0 t (narrow h k small) (proper H) ∙ ap (lookup k) (lists H)
+    present-so : a .present ≡ isThere (lookup k S)
+    present-so =
+        adding-present (h .width) 0 0 new-entry t (narrow h k small) (proper H) ∙ ap (λ es. isThere (lookup k es)) (holds-entries H)
 
-    module _ (out : lookup k S ≡ false) (not-full : eqb (h .count) (capacity table) ≡ false) where
+    module _ (out : isThere (lookup k S) ≡ false) (not-full : eqb (h .count) (capacity table) ≡ false) where
       absent : ends-at k w ≡ false
       absent = sym present-is ∙ present-so ∙ out
 
@@ -266,37 +267,37 @@ module _ (h : Header) (table S : List ℕ) (H : Holding h table S) (k : ℕ) whe
       fitting = root-fits (h .width) k .0 (leb-false (2 ^ h .width) k small)
 
       abbrev new-tree : Tree
-      new-tree = grown-tree (h .count) (h .width) k t
+      new-tree = grown-tree (h .count) (h .width) new-entry t
 
       new-proper : Proper (h .width) 0 0 new-tree
-      new-proper = grown-proper (h .width) k 0 0 t fitting (proper H) (h .count)
+      new-proper = grown-proper (h .width) 0 0 (h .count) new-entry t fitting (proper H)
 
-      new-lists : listing new-tree ≡ insert k S
-      new-lists = grown-listing (h .width) k 0 0 t fitting (proper H) (h .count) ∙ ap (insert k) (lists H)
+      new-entries : entries new-tree ≡ insert new-entry S
+      new-entries = grown-entries (h .width) 0 0 (h .count) new-entry t fitting (proper H) ∙ ap (insert new-entry) (holds-entries H)
 
-      new-number : length (insert k S) ≡ suc (h .count)
-      new-number = insert-length k S out ∙ ap suc (H .holds .number)
+      new-number : length (insert new-entry S) ≡ suc (h .count)
+      new-number = insert-length new-entry S out ∙ ap suc (H .holds .number)
 
       new-first : (numberAt new-tree ≡ 0) × (exists new-tree ≡ true)
       new-first =
           rw (tree-after absent)
           (pushed-first places (h .count) (left-over new-entry (push .passed)) (push .end) (ap numberAt before-whole ∙ root-first H)
-          (ap (λ u. length (listing u)) (sym (tree-after absent)) ∙ ap length new-lists ∙ new-number))
+          (ap (λ u. length (entries u)) (sym (tree-after absent)) ∙ ap length new-entries ∙ new-number))
 
       -- the table after `add` shows the tree that the push leaves
       pub add-shows : shown more after-add ≡ new-tree
       add-shows =
           shown-so more after-add new-tree (λ e. omega arith) new-proper (grown-spelled absent room-left) (new-first .1) (new-first .0)
 
-      pub add-held : Holding more after-add (insert k S)
+      pub add-held : Holding more after-add (insert new-entry S)
       unfolding wrong-header
       add-held =
           record {
             right-header =
                 rw (right-width H, same-capacity after-add table same-long, le-ltb (capacity table) (suc (h .count)) room-left);
             holds =
-                held-by-listing more after-add (ap intact add-shows ∙ proper-intact (h .width) 0 0 new-tree new-proper)
-                (ap listing add-shows ∙ new-lists) new-number;
+                held-by-entries more after-add (ap intact add-shows ∙ proper-intact (h .width) 0 0 new-tree new-proper)
+                (ap entries add-shows ∙ new-entries) new-number;
           }
 
   abbrev outcome : Bool → Bool → Bool → Outcome
@@ -306,47 +307,62 @@ module _ (h : Header) (table S : List ℕ) (H : Holding h table S) (k : ℕ) whe
       else if full then record { reply = refused h Full; table = table }
       else record { reply = answered more Done (rows (a .rows-read)); table = after-add }
 
-  outcome-so : addOutcome h table k ≡ outcome (leb (2 ^ h .width) k) (a .present) (eqb (h .count) (capacity table))
+  outcome-so : addOutcome h table new-entry ≡ outcome (leb (2 ^ h .width) k) (a .present) (eqb (h .count) (capacity table))
   unfolding addOutcome too-wide
-  outcome-so = rw (H .right-header, adding-unbroken (h .width) t (undamaged H) k)
+  outcome-so = rw (H .right-header, adding-unbroken (h .width) t (undamaged H) new-entry)
 
   -- so the new row, which is the last one, takes a word greater than all others
-  module _ (small : leb (2 ^ h .width) k ≡ false) (not-full : eqb (h .count) (capacity table) ≡ false) (greatest : (y : ℕ) → y ∈ S → y < k) where
-    not-there : lookup k S ≡ false
+  module _ (small : leb (2 ^ h .width) k ≡ false) (not-full : eqb (h .count) (capacity table) ≡ false) (greatest : (y : ℕ) → y ∈ words S → y < k) where
+    not-there : isThere (lookup k S) ≡ false
     not-there = greatest-absent k S greatest
 
-    done-so : addOutcome h table k ≡ outcome false false false
+    done-so : addOutcome h table new-entry ≡ outcome false false false
     done-so = outcome-so ∙ cc (small, present-so small, not-there, not-full)
 
-    pub last-row-takes : let o : Outcome = addOutcome h table k in rowAt (o .table) (pred (o .reply .header .count)) .entry .key ≡ k
+    pub last-row-takes : let o : Outcome = addOutcome h table new-entry in rowAt (o .table) (pred (o .reply .header .count)) .entry .key ≡ k
     unfolding left-over
     last-row-takes =
         ap (λ o. rowAt (o .table) (pred (o .reply .header .count)) .entry .key) done-so
         ∙ new-row-told (absent small not-there not-full) (room-left small not-there not-full)
-        ∙ ap (λ ss. left-over new-entry ss .key) (nothing-pushed k (h .width) t (rw (lists H) greatest))
+        ∙ ap (λ ss. left-over new-entry ss .key) (nothing-pushed k (h .width) t (rw (holds-entries H) greatest))
+
+-- `add` of the word k
+module _ (h : Header) (table : List ℕ) (S : List Entry) (H : Holding h table S) (k : ℕ) where
+  abbrev new : Entry
+  new = entryFor k
 
   pub keeps-add : (buffer : List ℕ) → KeepsDictionary after (Add k) h table buffer S
   unfolding after expected kept-after changed numberOf keyOf
-  keeps-add buffer = rw outcome-so (by-width (leb (2 ^ h .width) k) refl (a .present) (λ small. present-so small))
+  keeps-add buffer =
+      rw (outcome-so h table S H new)
+      (by-width (leb (2 ^ h .width) k) refl (a h table S H new .present) (λ small. present-so h table S H new small))
     where
       said : Bool → Bool → Bool → Said
       said wide there full = if wide then only 3 else if there then only 7 else if full then only 5 else only 0
 
       kept : Said → Kept
-      kept answer = if eqb (answer .number) 0 then record { width = h .width; set = insert k S; buffer = buffer } else keptBy h S buffer
+      kept answer = if eqb (answer .number) 0 then record { width = h .width; set = insert new S; buffer = buffer } else keptBy h S buffer
 
       left-by : Outcome → After
       left-by o = record { reply = o .reply; table = o .table; buffer = buffer }
 
-      by-room : (small : leb (2 ^ h .width) k ≡ false) (there : Bool) → lookup k S ≡ there → (full : Bool) → eqb (h .count) (capacity table) ≡ full
-          → Keeps (said false there full) (kept (said false there full)) table (left-by (outcome false there full))
-      by-room small true is full how = nothing-changed h table buffer S H (answered h AlreadyThere (rows (a .rows-read))) (only 7) refl refl
+      by-room : (small : leb (2 ^ h .width) k ≡ false) (there : Bool) → isThere (lookup k S) ≡ there
+          → (full : Bool) → eqb (h .count) (capacity table) ≡ full
+          → Keeps (said false there full) (kept (said false there full)) table (left-by (outcome h table S H new false there full))
+      by-room small true is full how =
+          nothing-changed h table buffer S H (answered h AlreadyThere (rows (a h table S H new .rows-read))) (only 7) refl refl
       by-room small false is true how = nothing-changed h table buffer S H (refused h Full) (only 5) refl refl
       by-room small false is false how =
-          record { answer = refl; width = refl; held = add-held small is how; written = refl; same-length = same-long }
+          record {
+            answer = refl;
+            width = refl;
+            held = add-held h table S H new small is how;
+            written = refl;
+            same-length = same-long h table S H new;
+          }
 
-      by-width : (wide : Bool) → leb (2 ^ h .width) k ≡ wide → (there : Bool) → (leb (2 ^ h .width) k ≡ false → there ≡ lookup k S)
-          → Keeps (said wide (lookup k S) (eqb (length S) (capacity table))) (kept (said wide (lookup k S) (eqb (length S) (capacity table)))) table
-          (left-by (outcome wide there (eqb (h .count) (capacity table))))
+      by-width : (wide : Bool) → leb (2 ^ h .width) k ≡ wide → (there : Bool) → (leb (2 ^ h .width) k ≡ false → there ≡ isThere (lookup k S))
+          → let answer : Said = said wide (isThere (lookup k S)) (eqb (length S) (capacity table)) in
+          Keeps answer (kept answer) table (left-by (outcome h table S H new wide there (eqb (h .count) (capacity table))))
       by-width true e there so = nothing-changed h table buffer S H (refused h WordTooWide) (only 3) refl refl
-      by-width false e there so = rw (so e, H .holds .number) (by-room e (lookup k S) refl (eqb (h .count) (capacity table)) refl)
+      by-width false e there so = rw (so e, H .holds .number) (by-room e (isThere (lookup k S)) refl (eqb (h .count) (capacity table)) refl)

@@ -1,30 +1,30 @@
 -- Demand 2 of the calls that write no row: `has`, `next`, `prev`, `gap`, `first`, `last`, `audit`, `list`; and of `new`.
 use Prim.Native.Nat.{ℕ, _*_, _/_, _^_}
-use mathlib.Core.Path.{_≡_, refl, ap, _∙_}
+use mathlib.Core.Path.{_≡_, refl, sym, ap, _∙_}
 use mathlib.Core.Bool.{Bool, true, false}
 use mathlib.Core.List.{List, [], _++_}
 use native.Mathlib.Omega.{arith}
 use lib.Dec.{ltb, leb, eqb}
 use lib.ListN.{length, drop, replicate}
 use borrow.Author.Tests.{leb-false, le-ltb}
-use Rattle.ordered.specs.Such.{if_then_else_, Perhaps, no-such, such}
-use Rattle.ordered.specs.Dictionary.{lookup, min, max, successor, predecessor}
-use Rattle.ordered.specs.Tree.{Tree, listing, intact}
+use Rattle.ordered.specs.Such.{if_then_else_, Perhaps, no-such, such, its, isThere}
+use Rattle.ordered.specs.Dictionary.{Entry, words, wordOf, lookup, min, max, successor, predecessor}
+use Rattle.ordered.specs.Tree.{Tree, entries, intact}
 use Rattle.ordered.specs.Proper.{Proper}
-use Rattle.ordered.specs.Reading.{Reading, rowsOf, brokenIn, nearest}
+use Rattle.ordered.specs.Reading.{Found, wordIn, entryIn, Reading, rowsOf, brokenIn, nearest}
 use Rattle.ordered.specs.Reading.{has as has-read, next as next-read, prev as prev-read, first as first-read, last as last-read, gap as gap-read}
 use Rattle.ordered.proofs.Bits.{on-root-path}
-use Rattle.ordered.proofs.Answers.{has-answer, next-answer, prev-answer, gap-answer, first-answer, last-answer}
+use Rattle.ordered.proofs.Answers.{there-entry, word-entry, has-answer, next-answer, prev-answer, gap-answer, first-answer, last-answer}
 use Rattle.ordered.proofs.Unbroken.{has-unbroken, next-unbroken, prev-unbroken, gap-unbroken, first-unbroken, last-unbroken}
 use Rattle.pretree.specs.declared.Header.{Header}
 use Rattle.pretree.specs.declared.Answer.{Answer}
-use Rattle.pretree.specs.declared.Answer.the-variants.{Done, Word, Distance, WrongWidth, WordTooWide, ShortBuffer}
+use Rattle.pretree.specs.declared.Answer.the-variants.{Done, Distance, WrongWidth, WordTooWide, ShortBuffer}
 use Rattle.pretree.specs.declared.Reply.{Reply}
 use Rattle.pretree.specs.Answer.{numberOf, keyOf}
-use Rattle.pretree.specs.Table.{capacity}
+use Rattle.pretree.specs.Table.{rowWords, capacity}
 use Rattle.pretree.specs.Unfold.{shown}
 use Rattle.pretree.specs.Reply.{fresh, wrong-width, wrong-header, too-wide, refused, answered}
-use Rattle.pretree.specs.Find.{saying, done, read-reply, hasReply, nextReply, prevReply, gapReply, firstReply, lastReply}
+use Rattle.pretree.specs.Find.{saying, done, word as say-word, read-reply, hasReply, nextReply, prevReply, gapReply, firstReply, lastReply}
 use Rattle.pretree.specs.Whole.{newReply, newTable, auditReply, listReply, listBuffer}
 use Rattle.pretree.specs.declared.Call.{Call}
 use Rattle.pretree.specs.declared.Call.the-variants.{New, Has, Next, Prev, Gap, First, Last, Audit}
@@ -33,38 +33,42 @@ use Rattle.demands.specs.Expected.{Said, Kept, only, word, expected, cha
 use Rattle.demands.specs.Demand2.{Holding, saidIn, Keeps, keptBy, KeepsDictionary}
 use Rattle.demands.proofs.Tested.{shown-proper}
 use Rattle.demands.proofs.Owned.{new-kept}
-use Rattle.demands.proofs.SoundIs.{tree-intact, tree-listing, test-of-set, held-by-listing}
+use Rattle.demands.proofs.SoundIs.{tree-intact, tree-entries, test-of-set, held-by-entries}
 
 -- document 01's number and key of an answer
 abbrev pub said-by : Answer → Said
 said-by a = record { number = numberOf a; key = keyOf a }
 
-said-word : (p : Perhaps ℕ) → said-by (saying Word p) ≡ word p
+said-word : (p : Perhaps Found) → said-by (saying say-word p) ≡ word (its wordIn p)
 unfolding numberOf keyOf
 said-word no-such = refl
 said-word (such x) = refl
+
+-- the word of the entry that is found
+said-entry : (p : Perhaps Found) {q : Perhaps Entry} → entryIn p ≡ q → said-by (saying say-word p) ≡ word (wordOf q)
+said-entry p found = said-word p ∙ ap word (word-entry p ∙ ap wordOf found)
 
 said-distance : (p : Perhaps ℕ) → said-by (saying Distance p) ≡ word p
 unfolding numberOf keyOf
 said-distance no-such = refl
 said-distance (such x) = refl
 
-said-done : (b : Bool) (k : ℕ) → said-by (saying done (if b then such k else no-such)) ≡ (if b then only 0 else only 8)
+said-done : (p : Perhaps Found) → said-by (saying done p) ≡ (if isThere p then only 0 else only 8)
 unfolding numberOf keyOf
-said-done true k = refl
-said-done false k = refl
+said-done no-such = refl
+said-done (such x) = refl
 
 either-way : {A : Type 0} (b : Bool) (x : A) → (if b then x else x) ≡ x
 either-way true x = refl
 either-way false x = refl
 
 -- what a header and table that hold the set S show
-module _ {h : Header} {table S : List ℕ} (H : Holding h table S) where
+module _ {h : Header} {table : List ℕ} {S : List Entry} (H : Holding h table S) where
   pub undamaged : intact (shown h table) ≡ true
   undamaged = tree-intact h table S (H .holds .increasing) (H .holds .below) (H .holds .tree)
 
-  pub lists : listing (shown h table) ≡ S
-  lists = tree-listing h table S (H .holds .increasing) (H .holds .below) (H .holds .tree)
+  pub holds-entries : entries (shown h table) ≡ S
+  holds-entries = tree-entries h table S (H .holds .increasing) (H .holds .below) (H .holds .tree)
 
   pub proper : Proper (h .width) 0 0 (shown h table)
   proper = shown-proper h table undamaged
@@ -75,15 +79,15 @@ narrow h k e = on-root-path (h .width) k .0 (leb-false (2 ^ h .width) k e)
 
 -- an empty set is held by every table
 pub empty-held : (W : ℕ) (table : List ℕ) → wrong-width W ≡ false → Holding (fresh W) table []
-unfolding wrong-header shown listing intact
+unfolding wrong-header shown entries intact
 empty-held W table right =
-    record { right-header = rw (right, le-ltb (capacity table) 0 (omega arith)); holds = held-by-listing (fresh W) table refl refl refl }
+    record { right-header = rw (right, le-ltb (capacity table) 0 (omega arith)); holds = held-by-entries (fresh W) table refl refl refl }
 
 -- the table that `new` leaves
 abbrev cleaned : List ℕ → List ℕ
-cleaned table = replicate (3 * capacity table) 0 ++ drop (3 * capacity table) table
+cleaned table = replicate (rowWords * capacity table) 0 ++ drop (rowWords * capacity table) table
 
-module _ (h : Header) (table buffer S : List ℕ) (H : Holding h table S) where
+module _ (h : Header) (table buffer : List ℕ) (S : List Entry) (H : Holding h table S) where
   abbrev kept : Kept
   kept = keptBy h S buffer
 
@@ -96,18 +100,18 @@ module _ (h : Header) (table buffer S : List ℕ) (H : Holding h table S) where
       record { answer = e; width = ap (λ g. g .width) same; held = rw same H; written = refl; same-length = refl }
 
   -- a call that reads: 3, or what was found
-  read : (wide : Bool) (word : ℕ → Answer) (r : Reading) (said : Said) → brokenIn (r .ways) ≡ false
-      → (wide ≡ false → said-by (saying word (r .answer)) ≡ said)
+  read : {A : Type 0} (wide : Bool) (say : A → Answer) (r : Reading A) (said : Said) → brokenIn (r .ways) ≡ false
+      → (wide ≡ false → said-by (saying say (r .answer)) ≡ said)
       → let all : Said = if wide then only 3 else said in
-      Keeps all (if eqb (all .number) 0 then kept else kept) table (leaving (read-reply h table wide word r))
+      Keeps all (if eqb (all .number) 0 then kept else kept) table (leaving (read-reply h table wide say r))
   unfolding numberOf keyOf
-  read wide word r said sound found =
+  read wide say r said sound found =
       rw (either-way (eqb ((if wide then only 3 else said) .number) 0) kept, H .right-header, sound) (either wide found)
     where
-      either : (b : Bool) → (b ≡ false → said-by (saying word (r .answer)) ≡ said)
-          → Keeps (if b then only 3 else said) kept table (leaving (if b then refused h WordTooWide else answered h (saying word (r .answer)) (rowsOf (r .ways))))
+      either : (b : Bool) → (b ≡ false → said-by (saying say (r .answer)) ≡ said)
+          → Keeps (if b then only 3 else said) kept table (leaving (if b then refused h WordTooWide else answered h (saying say (r .answer)) (rowsOf (r .ways))))
       either true found = nothing-changed (refused h WordTooWide) (only 3) refl refl
-      either false found = nothing-changed (answered h (saying word (r .answer)) (rowsOf (r .ways))) said (found refl) refl
+      either false found = nothing-changed (answered h (saying say (r .answer)) (rowsOf (r .ways))) said (found refl) refl
 
   abbrev t : Tree
   t = shown h table
@@ -116,41 +120,49 @@ module _ (h : Header) (table buffer S : List ℕ) (H : Holding h table S) where
     pub keeps-has : KeepsDictionary after (Has k) h table buffer S
     unfolding after expected kept-after changed hasReply too-wide
     keeps-has =
-        read (leb (2 ^ h .width) k) done (has-read (h .width) k t) (if lookup k S then only 0 else only 8) (has-unbroken (h .width) t (undamaged H) k)
-        (λ e. ap (λ p. said-by (saying done p)) (has-answer (h .width) k 0 0 t (narrow h k e) (proper H) ∙ ap (λ xs. if lookup k xs then such k else no-such) (lists H)) ∙ said-done (lookup k S) k)
+        read (leb (2 ^ h .width) k) done (has-read (h .width) k t) (if isThere (lookup k S) then only 0 else only 8) (has-unbroken (h .width) t (undamaged H) k)
+        (λ e.
+        said-done (has-read (h .width) k t .answer)
+        ∙ ap (λ b. if b then only 0 else only 8)
+        (sym (there-entry (has-read (h .width) k t .answer))
+        ∙ ap isThere (has-answer (h .width) k 0 0 t (narrow h k e) (proper H) ∙ ap (lookup k) (holds-entries H))))
 
     pub keeps-next : KeepsDictionary after (Next k) h table buffer S
     unfolding after expected kept-after changed nextReply too-wide
     keeps-next =
-        read (leb (2 ^ h .width) k) Word (next-read (h .width) k t) (word (successor k S)) (next-unbroken (h .width) t (undamaged H) k)
-        (λ e. said-word (next-read (h .width) k t .answer) ∙ ap word (next-answer (h .width) k 0 0 t (narrow h k e) (proper H) ∙ ap (successor k) (lists H)))
+        read (leb (2 ^ h .width) k) say-word (next-read (h .width) k t) (word (wordOf (successor k S))) (next-unbroken (h .width) t (undamaged H) k)
+        (λ e.
+        said-entry (next-read (h .width) k t .answer)
+        (next-answer (h .width) k 0 0 t (narrow h k e) (proper H) ∙ ap (successor k) (holds-entries H)))
 
     pub keeps-prev : KeepsDictionary after (Prev k) h table buffer S
     unfolding after expected kept-after changed prevReply too-wide
     keeps-prev =
-        read (leb (2 ^ h .width) k) Word (prev-read (h .width) k t) (word (predecessor k S)) (prev-unbroken (h .width) t (undamaged H) k)
-        (λ e. said-word (prev-read (h .width) k t .answer) ∙ ap word (prev-answer (h .width) k 0 0 t (narrow h k e) (proper H) ∙ ap (predecessor k) (lists H)))
+        read (leb (2 ^ h .width) k) say-word (prev-read (h .width) k t) (word (wordOf (predecessor k S))) (prev-unbroken (h .width) t (undamaged H) k)
+        (λ e.
+        said-entry (prev-read (h .width) k t .answer)
+        (prev-answer (h .width) k 0 0 t (narrow h k e) (proper H) ∙ ap (predecessor k) (holds-entries H)))
 
-    abbrev distance : List ℕ → Perhaps ℕ
-    distance xs = if lookup k xs then such 0 else nearest k (predecessor k xs) (successor k xs)
+    abbrev distance : List Entry → Perhaps ℕ
+    distance es = if isThere (lookup k es) then such 0 else nearest k (wordOf (predecessor k es)) (wordOf (successor k es))
 
     pub keeps-gap : KeepsDictionary after (Gap k) h table buffer S
     unfolding after expected kept-after changed gapReply too-wide
     keeps-gap =
         read (leb (2 ^ h .width) k) Distance (gap-read (h .width) k t) (word (distance S)) (gap-unbroken (h .width) t (undamaged H) k)
-        (λ e. said-distance (gap-read (h .width) k t .answer) ∙ ap word (gap-answer (h .width) k 0 0 t (narrow h k e) (proper H) ∙ ap distance (lists H)))
+        (λ e. said-distance (gap-read (h .width) k t .answer) ∙ ap word (gap-answer (h .width) k 0 0 t (narrow h k e) (proper H) ∙ ap distance (holds-entries H)))
 
   pub keeps-first : KeepsDictionary after First h table buffer S
   unfolding after expected kept-after changed firstReply
   keeps-first =
-      read false Word (first-read (h .width) t) (word (min S)) (first-unbroken (h .width) t (undamaged H))
-      (λ e. said-word (first-read (h .width) t .answer) ∙ ap word (first-answer (h .width) t ∙ ap min (lists H)))
+      read false say-word (first-read (h .width) t) (word (wordOf (min S))) (first-unbroken (h .width) t (undamaged H))
+      (λ e. said-entry (first-read (h .width) t .answer) (first-answer (h .width) t ∙ ap min (holds-entries H)))
 
   pub keeps-last : KeepsDictionary after Last h table buffer S
   unfolding after expected kept-after changed lastReply
   keeps-last =
-      read false Word (last-read (h .width) t) (word (max S)) (last-unbroken (h .width) t (undamaged H))
-      (λ e. said-word (last-read (h .width) t .answer) ∙ ap word (last-answer (h .width) 0 0 t (proper H) ∙ ap max (lists H)))
+      read false say-word (last-read (h .width) t) (word (wordOf (max S))) (last-unbroken (h .width) t (undamaged H))
+      (λ e. said-entry (last-read (h .width) t .answer) (last-answer (h .width) 0 0 t (proper H) ∙ ap max (holds-entries H)))
 
   pub keeps-audit : KeepsDictionary after Audit h table buffer S
   unfolding after expected kept-after changed auditReply numberOf keyOf
@@ -158,10 +170,10 @@ module _ (h : Header) (table buffer S : List ℕ) (H : Holding h table S) where
 
   pub keeps-list : KeepsDictionary after Call.List h table buffer S
   unfolding after expected kept-after changed listReply listBuffer numberOf keyOf
-  keeps-list = rw (H .right-header, test-of-set (H .holds), lists H, H .holds .number) (either (ltb (length buffer) (h .count)))
+  keeps-list = rw (H .right-header, test-of-set (H .holds), holds-entries H, H .holds .number) (either (ltb (length buffer) (h .count)))
     where
-      either : (b : Bool) → Keeps (if b then only 6 else only 0) (if eqb ((if b then only 6 else only 0) .number) 0 then record { width = h .width; set = S; buffer = S ++ drop (h .count) buffer } else kept) table
-          (record { reply = if b then refused h ShortBuffer else answered h Done (h .count); table = table; buffer = if b then buffer else S ++ drop (h .count) buffer })
+      either : (b : Bool) → Keeps (if b then only 6 else only 0) (if eqb ((if b then only 6 else only 0) .number) 0 then record { width = h .width; set = S; buffer = words S ++ drop (h .count) buffer } else kept) table
+          (record { reply = if b then refused h ShortBuffer else answered h Done (h .count); table = table; buffer = if b then buffer else words S ++ drop (h .count) buffer })
       either true = nothing-changed (refused h ShortBuffer) (only 6) refl refl
       either false = record { answer = refl; width = refl; held = H; written = refl; same-length = refl }
 

@@ -7,22 +7,24 @@ use mathlib.Core.List.{List, [], _∷_}
 use native.Mathlib.Omega.{arith}
 use lib.Dec.{ltb, leb, eqb}
 use borrow.Author.Tests.{ltb-false, leb-false, eqb-false, lt-leb}
-use Rattle.ordered.specs.Such.{if_then_else_, Perhaps, no-such, such, only-if}
+use Rattle.ordered.specs.Such.{if_then_else_, Perhaps, no-such, such, only-if, isThere}
 use Rattle.ordered.specs.Word.{Side, left, right, bitOf, side}
 use Rattle.ordered.specs.Said.{Whether}
-use Rattle.ordered.specs.Tree.{Tree, none, row, damaged, Entry, exists, intact}
+use Rattle.ordered.specs.Dictionary.{Entry}
+use Rattle.ordered.specs.Tree.{Tree, none, row, damaged, exists, intact}
 use Rattle.ordered.specs.Way.{Way, way, broken, isDamaged, following}
-use Rattle.ordered.specs.Reading.{brokenIn, keyAt, has}
-use Rattle.ordered.specs.Change.{Erasing, adding, erasing, isThere, ends-at, numberAt, entryAt}
+use Rattle.ordered.specs.Reading.{Found, brokenIn, wordIn, root-row, has}
+use Rattle.ordered.specs.Change.{Erasing, adding, erasing, ends-at, numberAt, entryAt}
 use Rattle.ordered.proofs.Ways.{unbroken}
 use Rattle.ordered.proofs.Unbroken.{has-unbroken, next-unbroken, prev-unbroken, first-unbroken, last-unbroken, gap-unbroken, adding-unbroken, erasing-unbroken}
-use Rattle.ordered.proofs.Answers.{is-there, adding-finds, erasing-finds}
+use Rattle.ordered.proofs.Answers.{adding-finds, erasing-finds}
 use Rattle.ordered.proofs.Pruned.{Pruned, empty, kept, cut, CutWay, CutErasing}
 use Rattle.ordered.proofs.Pruned.{has-tested, next-tested, prev-tested, gap-tested, first-tested, last-tested, way-tested, adding-tested, erasing-tested}
 use Rattle.pretree.specs.declared.Header.{Header}
 use Rattle.pretree.specs.declared.Row.{Row}
-use Rattle.pretree.specs.Table.{rowAt, link}
+use Rattle.pretree.specs.Table.{rowAt, entryOf, link}
 use Rattle.pretree.specs.Unfold.{ends-there, judged, linked, unfolded, shown}
+use Rattle.pretree.specs.Add.{entryFor}
 use Rattle.pretree.specs.Del.{secondWay, astray}
 use Rattle.pretree.specs.declared.Call.{Call}
 use Rattle.pretree.specs.declared.Call.the-variants.{New, Add, Del, Has, Next, Prev, Gap, First, Last, Audit}
@@ -140,7 +142,7 @@ module _ (h : Header) (table : List ℕ) where
   naming (suc m) p i s = linked (named-from (rowAt table) m (p * 2 + bitOf s)) (link (rowAt table i) s)
 
   named-row : (m p i : ℕ)
-      → named-from (rowAt table) m p i ≡ row p (record { key = rowAt table i .entry .key }) (naming m p i left) (naming m p i right)
+      → named-from (rowAt table) m p i ≡ row p (entryOf (rowAt table i)) (naming m p i left) (naming m p i right)
   unfolding named-from
   named-row zero p i = refl
   named-row (suc m) p i = refl
@@ -155,7 +157,7 @@ module _ (h : Header) (table : List ℕ) where
       stands = st .there (h .width) (omega arith)
 
       entry : Entry
-      entry = record { key = rowAt table (v .at) .entry .key }
+      entry = entryOf (rowAt table (v .at))
 
       part : Side → Tree
       part = hanging (rowAt table) (h .count) m (v .path) (v .at)
@@ -208,15 +210,22 @@ broken-alone w = or-false (broken w)
 
 -- `ends-at` says whether a way ends at a row with the key k
 ends-tested : (k : ℕ) (w : Way) → Whether ((p : ℕ) × EndsAt k p w) (ends-at k w)
-ends-tested k w = at-end (w .end)
+ends-tested k w = at-end (w .bits) (w .end)
   where
-    at-end : (t : Tree)
-        → Whether ((p : ℕ) × ((l : Tree) × (r : Tree) × (t ≡ row p (record { key = k }) l r))) (isThere (only-if (eqb k) (keyAt t)))
-    at-end none = never (λ there. false≢true (ap exists (there .1 .2)))
-    at-end damaged = never (λ there. false≢true (sym (ap isDamaged (there .1 .2))))
-    at-end (row p e l r) =
-        rw (is-there (eqb k (e .key)) (e .key))
-        (said-so (λ same. (p, (l, r, rw same))) (λ there. sym (ap (λ t. entryAt t .key) (there .1 .2))) (equal-tested k (e .key)))
+    Row-of-key : Tree → Type 0
+    Row-of-key t = (p : ℕ) × ((e : Entry) × (l : Tree) × (r : Tree) × (e .key ≡ k) × (t ≡ row p e l r))
+
+    passes : (b : Bool) (f : Found) → isThere (if b then such f else no-such) ≡ b
+    passes true f = refl
+    passes false f = refl
+
+    at-end : (m : ℕ) (t : Tree) → Whether (Row-of-key t) (isThere (only-if (λ f. eqb k (wordIn f)) (root-row m t)))
+    at-end m none = never (λ there. false≢true (ap exists (there .1 .4)))
+    at-end m damaged = never (λ there. false≢true (sym (ap isDamaged (there .1 .4))))
+    at-end m (row p e l r) =
+        rw (passes (eqb k (e .key)) (record { entry = e; bits = m }))
+        (said-so (λ same. (p, (e, l, r, sym same, refl))) (λ there. sym (there .1 .3) ∙ sym (ap (λ t. entryAt t .key) (there .1 .4)))
+        (equal-tested k (e .key)))
 
 -- the test that each call makes
 unfoldable pub damageTest : Call → Header → List ℕ → Bool
@@ -262,13 +271,13 @@ module _ (h : Header) (table : List ℕ) where
           (equal-tested (number h table (numberAt (w .end))) last))
         where
           there : ((p : ℕ) × EndsAt k p w) × (number h table (numberAt (w .end)) ≡ last) → FindsLast h table
-          there ((p, ends), same) = (p, ends, rw (ap numberAt (ends .2)) at same)
+          there ((p, ends), same) = (p, ends, rw (ap numberAt (ends .4)) at same)
 
           back : FindsLast h table → ((p : ℕ) × EndsAt k p w) × (number h table (numberAt (w .end)) ≡ last)
-          back (p, ends, same) = ((p, ends), rw (ap numberAt (ends .2)) same)
+          back (p, ends, same) = ((p, ends), rw (ap numberAt (ends .4)) same)
 
       ends : broken v ≡ false → Whether (¬ FindsLast h table) (astray h table v)
-      ends whole = not-tested (ends-at k v && eqb (numberAt (v .end)) last) (rw (cut-way .same-key whole, cut-way .same-number whole) at finds-last)
+      ends whole = not-tested (ends-at k v && eqb (numberAt (v .end)) last) (rw (cut-way .same-row whole, cut-way .same-number whole) at finds-last)
 
   del-tested : (k : ℕ) → Whether (DamageOn (Del k) h table) (damageTest (Del k) h table)
   unfolding DamageOn damageTest
@@ -311,7 +320,7 @@ module _ (h : Header) (table : List ℕ) where
 pub damage-tested : (c : Call) (h : Header) (table : List ℕ) → Whether (DamageOn c h table) (damageTest c h table)
 unfolding DamageOn damageTest waysOf
 damage-tested (New w) h table = never (λ no. no)
-damage-tested (Add k) h table = adding-tested (h .width) (shown-pruned h table) k .exactly
+damage-tested (Add k) h table = adding-tested (h .width) (shown-pruned h table) (entryFor k) .exactly
 damage-tested (Del k) h table = del-tested h table k
 damage-tested (Has k) h table = has-tested (h .width) (shown-pruned h table) k
 damage-tested (Next k) h table = next-tested (h .width) (shown-pruned h table) k
@@ -323,10 +332,10 @@ damage-tested Audit h table = never (λ no. no)
 damage-tested Call.List h table = never (λ no. no)
 
 -- an `add` that meets no damage finds out whether its word is absent
-pub absent-tested : (k : ℕ) (h : Header) (table : List ℕ) → broken (adding (h .width) k (shown h table) .rows-read) ≡ false
-    → Whether (Absent k h table) (not (adding (h .width) k (shown h table) .present))
+pub absent-tested : (k : ℕ) (h : Header) (table : List ℕ) → broken (adding (h .width) (entryFor k) (shown h table) .rows-read) ≡ false
+    → Whether (Absent k h table) (not (adding (h .width) (entryFor k) (shown h table) .present))
 absent-tested k h table whole =
-    rw (← adding-tested (h .width) (shown-pruned h table) k .same-presence whole, adding-finds (h .width) k (named h table))
+    rw (← adding-tested (h .width) (shown-pruned h table) (entryFor k) .same-presence whole, adding-finds (h .width) (entryFor k) (named h table))
     (not-tested (ends-at k (wayOf k h table)) (ends-tested k (wayOf k h table)))
 
 -- no damage on a table that holds a set: no way breaks there, and the second way of a `del` finds the last row
@@ -339,7 +348,8 @@ none-in-sets c h table S held = fails (rw (passes c) at (damage-tested c h table
 
     passes : (c : Call) → damageTest c h table ≡ false
     passes (New w) = refl
-    passes (Add k) = broken-alone (adding (h .width) k (shown h table) .rows-read) ∙ adding-unbroken (h .width) (shown h table) whole k
+    passes (Add k) =
+        broken-alone (adding (h .width) (entryFor k) (shown h table) .rows-read) ∙ adding-unbroken (h .width) (shown h table) whole (entryFor k)
     passes (Del k) =
         rw (erasing-unbroken (h .width) (shown h table) whole k, second-unbroken)
         (by-count (eqb (h .count) 0) refl (erasing (h .width) k (shown h table) .present) (erasing-finds (h .width) k (shown h table)))

@@ -1,50 +1,50 @@
 -- Where an erase ends, what its writes leave of the links, and the words after it: laws for demand 2 of `del`.
 use Prim.Native.Nat.{ℕ, zero, suc, pred, _+_, _*_, _<_}
 use mathlib.Core.Path.{_≡_, refl, sym, ap, _∙_}
-use mathlib.Core.Bool.{Bool, true, false, _||_, false≢true}
+use mathlib.Core.Bool.{Bool, true, false, false≢true}
 use mathlib.Core.List.{List, [], _∷_, _++_, map, map-append}
 use mathlib.Core.List.{List·Memᴰ·head, List·Memᴰ·tail}
 use native.Mathlib.Omega.{arith}
 use lib.Dec.{eqb}
 use lib.ListN.{length}
-use lib.Seq.{getD-set-other}
 use borrow.Author.Tests.{eqb-true, eqb-false, ne-eqb}
-use Rattle.ordered.specs.Such.{if_then_else_, Perhaps, no-such, such, only-if}
+use Rattle.ordered.specs.Such.{if_then_else_, Perhaps, no-such, such, first-of, first-such, only-if, isThere}
 use Rattle.ordered.specs.Word.{Side, left, right, bitOf}
-use Rattle.ordered.specs.Dictionary.{Increasing, none-increasing, one-increasing, delete, lookup}
+use Rattle.ordered.specs.Dictionary.{Entry, words, Increasing, none-increasing, one-increasing, delete, lookup}
 use Rattle.ordered.specs.Said.{_∈_}
-use Rattle.ordered.specs.Tree.{Tree, none, row, damaged, Entry, part, exists, listing, intact}
+use Rattle.ordered.specs.Tree.{Tree, none, row, damaged, part, exists, entries, listing, intact}
 use Rattle.ordered.specs.Proper.{Proper}
 use Rattle.ordered.specs.Way.{Step, Rule, stop, to, way, rows, down}
-use Rattle.ordered.specs.Reading.{keyAt}
-use Rattle.ordered.specs.Change.{Take, isThere, numberAt}
+use Rattle.ordered.specs.Reading.{Found, wordIn, root-row}
+use Rattle.ordered.specs.Change.{Take, numberAt}
 use Rattle.ordered.specs.Grown.{linking as turned, linked as chained}
-use Rattle.ordered.proofs.Parts.{all-map, above-all, delete-absent}
+use Rattle.ordered.proofs.Parts.{all-map, above-all, delete-absent, words-append}
 use Rattle.ordered.proofs.Lists.{above-less}
 use Rattle.ordered.proofs.Ways.{at-bottom, at-none, at-damage, at-stop, At-end, Onward, along}
 use Rattle.pretree.specs.declared.Header.{Header}
 use Rattle.pretree.specs.declared.Row.{Row}
-use Rattle.pretree.specs.Table.{rowAt, link, withKey, withLink}
+use Rattle.pretree.specs.Table.{rowAt, link, withEntry, withLink}
 use Rattle.pretree.specs.Unfold.{unfolded, shown}
 use Rattle.pretree.specs.Add.{taking, hooking}
+use Rattle.pretree.proofs.Rows.{HasRow, linking, link-stays, link-written, link-elsewhere}
 use Rattle.demands.specs.Numbers.{numbers, often, renamed}
-use Rattle.demands.proofs.Numbers.{intact-unnumbered, listing-unnumbered, unnumbered-renamed}
-use Rattle.demands.proofs.Links.{linking, moved-into}
+use Rattle.demands.proofs.Numbers.{intact-unnumbered, entries-unnumbered, unnumbered-renamed}
+use Rattle.demands.proofs.Links.{moved-into}
 use Rattle.demands.proofs.Spelled.{Spelled, a-row}
-use Rattle.demands.proofs.Writes.{link-written, link-elsewhere}
 use Rattle.demands.proofs.Rewritten.{Same-places, no-place, one-place, Hook-told, hook-told}
 
 -- a set with one word less
-pub delete-length : (x : ℕ) {s : List ℕ} → Increasing s → lookup x s ≡ true → suc (length (delete x s)) ≡ length s
-unfolding delete lookup
-delete-length x none-increasing there = absurd (false≢true there)
-delete-length x (one-increasing {x = y} {xs = ys} a h) there = by-cases (eqb x y) refl there (delete-length x h)
+pub delete-length : (x : ℕ) (s : List Entry) → Increasing (words s) → isThere (lookup x s) ≡ true → suc (length (delete x s)) ≡ length s
+unfolding delete lookup first-such
+delete-length x [] none-increasing there = absurd (false≢true there)
+delete-length x (f ∷ s) (one-increasing a h) there = by-cases (eqb x (f .key)) refl there (delete-length x s h)
   where
-    by-cases : (b : Bool) → eqb x y ≡ b → (b || lookup x ys) ≡ true → (lookup x ys ≡ true → suc (length (delete x ys)) ≡ length ys)
-        → suc (length (if b then delete x ys else y ∷ delete x ys)) ≡ suc (length ys)
+    by-cases : (b : Bool) → eqb x (f .key) ≡ b → isThere (first-of (if b then such f else no-such) (lookup x s)) ≡ true
+        → (isThere (lookup x s) ≡ true → suc (length (delete x s)) ≡ length s)
+        → suc (length (if b then delete x s else f ∷ delete x s)) ≡ suc (length s)
     by-cases true e there rest =
-        let same : x ≡ y = eqb-true x y e in
-        ap (λ zs. suc (length zs)) (delete-absent x ys (all-map (λ z less. ne-eqb x z (λ equal. omega arith)) (above-all a)))
+        let same : x ≡ f .key = eqb-true x (f .key) e in
+        ap (λ es. suc (length es)) (delete-absent x s (all-map (λ z less. ne-eqb x (z .key) (λ equal. omega arith)) (above-all s a)))
     by-cases false e there rest = ap suc (rest there)
 
 -- where an erase ends: at a row without parts
@@ -93,10 +93,10 @@ leaf-end = along (down left) (λ m t w. (path low : ℕ) → Proper m path low t
         onward right false is-left false is-right says = cc
 
 -- the way of k that ends at k ends at a row
-pub ends-row : (k : ℕ) (t : Tree) → isThere (only-if (eqb k) (keyAt t)) ≡ true → exists t ≡ true
-ends-row k none e = e
-ends-row k (row i e l r) e′ = refl
-ends-row k damaged e = cc
+pub ends-row : (k m : ℕ) (t : Tree) → isThere (only-if (λ f. eqb k (wordIn f)) (root-row m t)) ≡ true → exists t ≡ true
+ends-row k m none e = e
+ends-row k m (row i e l r) e′ = refl
+ends-row k m damaged e = cc
 
 -- the words that rows spell are their keys
 module _ (rows : ℕ → Row) (n : ℕ) where
@@ -104,10 +104,10 @@ module _ (rows : ℕ → Row) (n : ℕ) where
   keyOf-row j = rows j .entry .key
 
   pub spelled-keys : (t : Tree) → Spelled rows n t → listing t ≡ map keyOf-row (numbers t)
-  unfolding listing numbers
+  unfolding entries numbers
   spelled-keys none s = refl
   spelled-keys (row i e l r) (a-row s u v) =
-      rw (map-append, spelled-keys l u, spelled-keys r v)
+      rw (words-append, map-append, spelled-keys l u, spelled-keys r v)
       (ap (λ k. k ∷ (map keyOf-row (numbers l) ++ map keyOf-row (numbers r))) (sym (ap (λ x. x .entry .key) (s .as-told))))
 
 pub in-map : (key : ℕ → ℕ) {xs : List ℕ} {i : ℕ} → i ∈ xs → key i ∈ map key xs
@@ -123,20 +123,16 @@ one-key key (x ∷ xs) (one-increasing a h) (List·Memᴰ·tail there) (List·Me
     absurd (omega (arith, above-less a (in-map key there), ap key e))
 one-key key (x ∷ xs) (one-increasing a h) (List·Memᴰ·tail there) (List·Memᴰ·tail there′) same = one-key key xs h there there′ same
 
--- writes of keys leave every link
+-- writes of entries leave every link
 pub taking-link : (ts : List Take) (table : List ℕ) (j : ℕ) (s : Side) → link (rowAt (taking ts table) j) s ≡ link (rowAt table j) s
-unfolding taking withKey rowAt
+unfolding taking
 taking-link [] table j s = refl
-taking-link (x ∷ ts) table j s = taking-link ts (withKey (x .at) (x .entry .key) table) j s ∙ key-link (x .at) (x .entry .key) s
-  where
-    key-link : (i k : ℕ) (s : Side) → link (rowAt (withKey i k table) j) s ≡ link (rowAt table j) s
-    key-link i k left = getD-set-other table (3 * i) (3 * j + 1) k 0 (λ e. omega arith)
-    key-link i k right = getD-set-other table (3 * i) (3 * j + 2) k 0 (λ e. omega arith)
+taking-link (x ∷ ts) table j s = taking-link ts (withEntry (x .at) (x .entry) table) j s ∙ link-stays (x .at) (x .entry) table j s
 
 -- a link that is not the one that is set stays
 pub hooking-link :
     (p : Perhaps Step) (v : ℕ) (table : List ℕ) (j : ℕ) (s : Side)
-    → ((q : Step) → p ≡ such q → (3 * q .at + 2 < length table) × (q .at ≡ j → q .turn ≡ s → ⊥))
+    → ((q : Step) → p ≡ such q → HasRow table (q .at) × (q .at ≡ j → q .turn ≡ s → ⊥))
     → link (rowAt (hooking p v table) j) s ≡ link (rowAt table j) s
 hooking-link no-such v table j s differs = refl
 hooking-link (such q) v table j s differs = by-cases (eqb j (q .at)) refl
@@ -174,15 +170,15 @@ leaf-told (row i e none none) leaf (a-row told u v) =
 
 -- the row at which the way of a word ends, where the word is there
 pub end-is :
-    {rows : ℕ → Row} {n : ℕ} (x : ℕ) (u : Tree) → Spelled rows n u → only-if (eqb x) (keyAt u) ≡ such x
+    {rows : ℕ → Row} {n : ℕ} (x m : ℕ) (u : Tree) → Spelled rows n u → isThere (only-if (λ f. eqb x (wordIn f)) (root-row m u)) ≡ true
     → (rows (numberAt u) .entry .key ≡ x) × (numberAt u ∈ numbers u)
 unfolding numbers
-end-is x none s found = let never : _≡_ {A = ℕ} 0 1 = cc in absurd (omega arith)
-end-is {rows} x (row i e l r) (a-row told u v) found = by-cases (eqb x (e .key)) refl found
+end-is x m none s found = absurd (false≢true found)
+end-is {rows} x m (row i e l r) (a-row told u v) found = by-cases (eqb x (e .key)) refl found
   where
-    by-cases : (b : Bool) → eqb x (e .key) ≡ b → (if b then such (e .key) else no-such) ≡ such x → (rows i .entry .key ≡ x) × (i ∈ numbers (row i e l r))
+    by-cases : (b : Bool) → eqb x (e .key) ≡ b → isThere {A = Found} (if b then such (record { entry = e; bits = m }) else no-such) ≡ true → (rows i .entry .key ≡ x) × (i ∈ numbers (row i e l r))
     by-cases true same found = (ap (λ y. y .entry .key) (told .as-told) ∙ sym (eqb-true x (e .key) same), List·Memᴰ·head refl)
-    by-cases false same found = let never : _≡_ {A = ℕ} 0 1 = cc in absurd (omega arith)
+    by-cases false same found = absurd (false≢true found)
 
 pub hook-names :
     {rows : ℕ → Row} {n : ℕ} {ss : List Step} {u : Tree} {q : Step} → Hook-told rows n ss u (such q)
@@ -200,8 +196,8 @@ popped-first (one-place {s} {ss} {us} f p) u root = by-side (s .turn) root
     by-side left root = root
     by-side right root = root
 
-pub listed-there : (t : Tree) → (length (listing t) ≡ 0 → ⊥) → exists t ≡ true
-unfolding listing
+pub listed-there : (t : Tree) → (length (entries t) ≡ 0 → ⊥) → exists t ≡ true
+unfolding entries
 listed-there none some = absurd (some refl)
 listed-there (row i e l r) some = refl
 listed-there damaged some = refl
@@ -211,12 +207,12 @@ unfolding numbers
 root-in none s there = absurd (false≢true there)
 root-in (row i e l r) s there = List·Memᴰ·head refl
 
--- other row numbers, the same words
+-- other row numbers, the same entries
 pub renamed-intact : (σ : ℕ → ℕ) (t : Tree) → intact (renamed σ t) ≡ intact t
 renamed-intact σ t = sym (intact-unnumbered (renamed σ t)) ∙ ap intact (unnumbered-renamed σ t) ∙ intact-unnumbered t
 
-pub renamed-listing : (σ : ℕ → ℕ) (t : Tree) → listing (renamed σ t) ≡ listing t
-renamed-listing σ t = sym (listing-unnumbered (renamed σ t)) ∙ ap listing (unnumbered-renamed σ t) ∙ listing-unnumbered t
+pub renamed-entries : (σ : ℕ → ℕ) (t : Tree) → entries (renamed σ t) ≡ entries t
+renamed-entries σ t = sym (entries-unnumbered (renamed σ t)) ∙ ap entries (unnumbered-renamed σ t) ∙ entries-unnumbered t
 
 pub root-stays : (hole last : ℕ) → (last ≡ 0 → ⊥) → moved-into hole last 0 ≡ 0
 unfolding moved-into
@@ -230,6 +226,6 @@ pub one-more : (n : ℕ) → 0 < n → n ≡ suc (pred n)
 one-more zero some = absurd (omega arith)
 one-more (suc n) some = refl
 
-pub no-words : (xs : List ℕ) → length xs ≡ 0 → xs ≡ []
-no-words [] e = refl
-no-words (x ∷ xs) e = absurd (omega arith)
+pub no-entries : (es : List Entry) → length es ≡ 0 → es ≡ []
+no-entries [] e = refl
+no-entries (x ∷ es) e = absurd (omega arith)

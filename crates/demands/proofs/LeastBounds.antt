@@ -1,25 +1,27 @@
 -- The bounds of demand 3 are reached by calls, and none can be lowered: the proofs of the second half of specs/Reached.antt.
 use Prim.Native.Nat.{ℕ, zero, suc, pred, _+_, _*_, _-_, _^_, _≤_, _<_}
 use mathlib.Core.Path.{_≡_, refl, sym, ap, subst, _∙_}
-use mathlib.Core.Bool.{Bool, true, false, not, _&&_, or-true}
+use mathlib.Core.Bool.{Bool, true, false, not, _&&_}
 use mathlib.Core.List.{List, [], _∷_, _++_, List·Memᴰ·head, List·Memᴰ·tail}
 use native.Mathlib.Nat.{zero-add, zero-mul}
 use native.Mathlib.Omega.{arith}
 use lib.Dec.{leb, eqb}
 use lib.Pow.{pow-pos, pow-mono, pow-lt, ones-lt}
 use lib.ListN.{length, replicate, length-append, length-replicate}
-use borrow.Author.Tests.{le-ltb, lt-leb, eqb-false, eq-eqb, ne-eqb}
-use Rattle.ordered.specs.Such.{if_then_else_}
-use Rattle.ordered.specs.Dictionary.{Increasing, none-increasing, one-increasing, lookup}
+use borrow.Author.Tests.{le-ltb, lt-leb, eqb-false, ne-eqb}
+use Rattle.ordered.specs.Such.{if_then_else_, first-such, isThere}
+use Rattle.ordered.specs.Dictionary.{Entry, Increasing, none-increasing, one-increasing, lookup}
 use Rattle.ordered.specs.Said.{_∈_}
 use Rattle.ordered.specs.Word.{right}
-use Rattle.ordered.specs.Tree.{row, treeOf}
-use Rattle.ordered.specs.Way.{to, way, rows, following}
+use Rattle.ordered.specs.Tree.{treeOf}
+use Rattle.ordered.specs.Way.{way, rows, following}
 use Rattle.ordered.specs.Change.{erasing}
 use Rattle.ordered.proofs.Lists.{above-less}
+use Rattle.ordered.proofs.Dictionary.{lookup-whether}
+use Rattle.ordered.proofs.OneTree.{words-length}
 use Rattle.pretree.specs.declared.Header.{Header}
 use Rattle.pretree.specs.declared.Reply.{Reply}
-use Rattle.pretree.specs.Table.{capacity, rowAt}
+use Rattle.pretree.specs.Table.{rowWords, capacity, rowAt}
 use Rattle.pretree.specs.Unfold.{shown}
 use Rattle.pretree.specs.Reply.{fresh, wrong-width}
 use Rattle.pretree.specs.Call.{after}
@@ -28,11 +30,11 @@ use Rattle.pretree.specs.declared.Call.the-variants.{Add, Del, Has, Next, Prev,
 use Rattle.demands.specs.Program.{State, outcome, end-state}
 use Rattle.demands.specs.Demand2.{Holding, HoldsKept}
 use Rattle.demands.specs.RowsRead.{rowsOver, moves, movedOver, refusedOver, mostRows, mostMoved}
-use Rattle.demands.specs.Reached.{chain, parted-chain, forked-chain, SetOf, making, rows-read, moving-count, ReadOnce, ReachedByCalls, Bounds, LeastBounds}
+use Rattle.demands.specs.Reached.{chain, parted-chain, forked-chain, entriesFor, SetOf, making, rows-read, moving-count, ReadOnce, ReachedByCalls, Bounds, LeastBounds}
 use Rattle.demands.proofs.RowsRead.{rows-exact, rows-bounded}
 use Rattle.demands.proofs.Added.{shown-spelled}
 use Rattle.demands.proofs.Removed.{three-rows}
-use Rattle.demands.proofs.Making.{words, made, last-key, greatest-last}
+use Rattle.demands.proofs.Making.{keeping, words-for, made, last-key, greatest-last}
 use Rattle.demands.proofs.Reached.{top, top-step, reached, less-one, fork-tree, fork-set, greatest, greatest-top, greatest-rows, hole-of-one, reached-beyond}
 
 chain-length : (m p : ℕ) → length (chain m p) ≡ m + 1
@@ -48,24 +50,28 @@ forked-length : (W : ℕ) → 2 ≤ W → length (forked-chain W) ≡ W + 2
 unfolding forked-chain
 forked-length W two = omega (arith, chain-length (W - 1) 1)
 
-top-there : (m p : ℕ) → lookup (top m p) (chain m p) ≡ true
-unfolding chain lookup
-top-there zero p = rw (eq-eqb (top 0 p) p (omega arith))
-top-there (suc m) p = rw (← top-step m p, top-there m (p * 2 + 1)) (or-true (eqb (top m (p * 2 + 1)) (p * 2 ^ suc m)))
+top-in : (m p : ℕ) → top m p ∈ chain m p
+unfolding chain
+top-in zero p = let same : top 0 p ≡ p = omega arith in List·Memᴰ·head same
+top-in (suc m) p = List·Memᴰ·tail (rw (top-step m p) at (top-in m (p * 2 + 1)))
+
+top-there : (m p : ℕ) → isThere (lookup (top m p) (entriesFor (chain m p))) ≡ true
+top-there m p = lookup-whether (top m p) (entriesFor (chain m p)) .1 (rw (words-for (chain m p)) (top-in m p))
 
 pub right-width : (W : ℕ) → 1 ≤ W → W ≤ 32 → wrong-width W ≡ false
 right-width W some fits = rw (ne-eqb W 0 (λ e. omega arith), le-ltb 32 W fits)
 
 -- the calls that make a set lead to a table that holds it, and there a call that is not refused reads the rows of its ways
 module _ (W : ℕ) (some : 1 ≤ W) (fits : W ≤ 32) (S : List ℕ) (set : SetOf W S) where
-  read-once : (c : Call) → ((room space : ℕ) → refusedOver c W S room space ≡ false) → ReadOnce after rows-read W S c (rowsOver c W S)
+  read-once : (c : Call) → ((room space : ℕ) → refusedOver c W (entriesFor S) room space ≡ false)
+      → ReadOnce after rows-read W S c (rowsOver c W (entriesFor S))
   read-once c accepted s room =
       let end : State = end-state after (making W S) s in
-      let made-here : HoldsKept end (words W S) = made W S s (right-width W some fits) set room in
+      let made-here : HoldsKept end (keeping W (entriesFor S)) = made W S s (right-width W some fits) set room in
       let P : ℕ → Type 0 = λ width. (buffer : List ℕ) → outcome after (record { call = c; buffer = buffer }) end .reply .rows
-      ≡ (if refusedOver c width S (capacity (end .table)) (length buffer) then 0 else rowsOver c width S) in
+      ≡ (if refusedOver c width (entriesFor S) (capacity (end .table)) (length buffer) then 0 else rowsOver c width (entriesFor S)) in
       let exact : P (end .header .width) =
-      λ buffer. rows-exact c (end .header) (end .table) buffer S (made-here .held .right-header) (made-here .held .holds) .rows-read in
+      λ buffer. rows-exact c (end .header) (end .table) buffer (entriesFor S) (made-here .held .right-header) (made-here .held .holds) .rows-read in
       let exact-here : P W = subst P (made-here .width) exact in
       record {
         width = made-here .width;
@@ -92,18 +98,18 @@ module _ (n : ℕ) where
 
   -- in every table that holds a forked chain with its greatest word in the last row
   fork-moved :
-      (h : Header) (table buffer : List ℕ) → Holding h table forked → h .width ≡ suc (suc n) → rowAt table (pred (h .count)) .entry .key ≡ greatest n
+      (h : Header) (table buffer : List ℕ) → Holding h table (entriesFor forked) → h .width ≡ suc (suc n) → rowAt table (pred (h .count)) .entry .key ≡ greatest n
       → after (Del 1) h table buffer .reply .moved ≡ suc (suc n) + 1
-  unfolding refusedOver movedOver moves forked-chain lookup
+  unfolding refusedOver movedOver moves forked-chain lookup first-such
   fork-moved h table buffer H width last =
       let hole : ℕ = erasing (h .width) 1 (shown h table) .hole in
       let small : leb (2 ^ h .width) 1 ≡ false = rw width (lt-leb (2 ^ suc (suc n)) 1 (omega (arith, one-less))) in
       let holds-one : rowAt table hole .entry .key ≡ 1 =
       ap (λ W. rowAt table (erasing W 1 (shown h table) .hole) .entry .key) width
-      ∙ hole-of-one n (shown-spelled H) (H .holds .tree ∙ ap (λ W. treeOf W forked) width ∙ fork-tree n) in
+      ∙ hole-of-one n (shown-spelled H) (H .holds .tree ∙ ap (λ W. treeOf W (entriesFor forked)) width ∙ fork-tree n) in
       let goes : eqb hole (pred (h .count)) ≡ false =
       ne-eqb hole (pred (h .count)) (λ same. omega (arith, one-less, ap (λ j. rowAt table j .entry .key) same)) in
-      rows-exact (Del 1) h table buffer forked (H .right-header) (H .holds) .moving-count ∙ rw (small, goes, last, width, fork-tree n) (greatest-rows n)
+      rows-exact (Del 1) h table buffer (entriesFor forked) (H .right-header) (H .holds) .moving-count ∙ rw (small, goes, last, width, fork-tree n) (greatest-rows n)
 
   -- as it is after `new` and an `add` of each word
   fork-reads : suc (suc n) ≤ 32 → ReadOnce after moving-count (suc (suc n)) forked (Del 1) (suc (suc n) + 1)
@@ -112,7 +118,7 @@ module _ (n : ℕ) where
       let W : ℕ = suc (suc n) in
       let right : wrong-width W ≡ false = right-width W (omega arith) fits in
       let end : State = end-state after (making W forked) s in
-      let here : HoldsKept end (words W forked) = made W forked s right (fork-set n) room in
+      let here : HoldsKept end (keeping W (entriesFor forked)) = made W forked s right (fork-set n) room in
       let below = chain-ends (suc n) 1 in
       let ends : forked ≡ (0 ∷ 1 ∷ below .0) ++ (greatest n ∷ []) =
       rw (less-one n) (ap (λ xs. 0 ∷ 1 ∷ xs) (rw (greatest-top n) at (below .1))) in
@@ -136,7 +142,7 @@ reached-by-calls W some fits =
     let on-chain = read-once W some fits (chain W 0) (reached W .a-set) in
     let small : leb (2 ^ W) (2 ^ W - 1) ≡ false = lt-leb (2 ^ W) (2 ^ W - 1) (ones-lt W) in
     let half : 2 ^ (W - 1) < 2 ^ W = pow-lt (omega arith) in
-    let there : lookup (2 ^ W - 1) (chain W 0) ≡ true = rw (zero-mul, zero-add) at (top-there W 0) in
+    let there : isThere (lookup (2 ^ W - 1) (entriesFor (chain W 0))) ≡ true = rw (zero-mul, zero-add) at (top-there W 0) in
     record {
       has-reads = rw (reached W .has-reads) at (on-chain (Has (2 ^ W - 1)) (λ room space. small));
       add-reads = rw (reached W .add-reads) at (on-chain (Add (2 ^ W - 1)) (λ room space. rw (small, there)));
@@ -153,8 +159,8 @@ reached-by-calls W some fits =
       del-moves = λ two. moved-once W two fits;
     }
   where
-    on-parted : 3 ≤ W → (c : Call) → ((room space : ℕ) → refusedOver c W (parted-chain W) room space ≡ false)
-        → ReadOnce after rows-read W (parted-chain W) c (rowsOver c W (parted-chain W))
+    on-parted : 3 ≤ W → (c : Call) → ((room space : ℕ) → refusedOver c W (entriesFor (parted-chain W)) room space ≡ false)
+        → ReadOnce after rows-read W (parted-chain W) c (rowsOver c W (entriesFor (parted-chain W)))
     on-parted three = read-once W some fits (parted-chain W) (reached-beyond W three .a-set)
 
 -- increasing words from `low` up to n
@@ -169,17 +175,17 @@ increasing-few low n (one-increasing {x} a h) from below =
     )
 
 -- with words of one bit a set has two words at most, and a move takes three rows
-module _ (k : ℕ) (h : Header) (table buffer S : List ℕ) (H : Holding h table S) (narrow : h .width < 2) where
+module _ (k : ℕ) (h : Header) (table buffer : List ℕ) (S : List Entry) (H : Holding h table S) (narrow : h .width < 2) where
   few-rows : h .count ≤ 2
   few-rows =
       let two : 2 ^ h .width ≤ 2 ^ 1 = pow-mono {j = 1} (omega arith) in
-      omega (arith, increasing-few 0 (2 ^ h .width) (H .holds .increasing) (λ x there. omega arith) (H .holds .below), H .holds .number)
+      omega (arith, increasing-few 0 (2 ^ h .width) (H .holds .increasing) (λ x there. omega arith) (H .holds .below), words-length S, H .holds .number)
 
   nothing-moves : after (Del k) h table buffer .reply .moved ≡ 0
   unfolding refusedOver movedOver moves
   nothing-moves =
       rows-exact (Del k) h table buffer S (H .right-header) (H .holds) .moving-count
-      ∙ by-cases (leb (2 ^ h .width) k) refl (lookup k S) refl (eqb hole last) refl
+      ∙ by-cases (leb (2 ^ h .width) k) refl (isThere (lookup k S)) refl (eqb hole last) refl
     where
       hole : ℕ
       hole = erasing (h .width) k (shown h table) .hole
@@ -190,7 +196,7 @@ module _ (k : ℕ) (h : Header) (table buffer S : List ℕ) (H : Holding h table
       second : ℕ
       second = rows (way (following (rowAt table last .entry .key)) (h .width) (treeOf (h .width) S))
 
-      by-cases : (wide : Bool) → leb (2 ^ h .width) k ≡ wide → (there : Bool) → lookup k S ≡ there → (same : Bool) → eqb hole last ≡ same
+      by-cases : (wide : Bool) → leb (2 ^ h .width) k ≡ wide → (there : Bool) → isThere (lookup k S) ≡ there → (same : Bool) → eqb hole last ≡ same
           → (if wide then 0 else if there && not same then second else 0) ≡ 0
       by-cases true small there is same how = refl
       by-cases false small false is same how = refl
@@ -199,7 +205,7 @@ module _ (k : ℕ) (h : Header) (table buffer S : List ℕ) (H : Holding h table
 
 -- a table with room for n words
 roomy : ℕ → State
-roomy n = record { header = fresh 1; table = replicate (3 * n) 0 }
+roomy n = record { header = fresh 1; table = replicate (rowWords * n) 0 }
 
 roomy-capacity : (n : ℕ) → n ≤ 65535 → capacity (roomy n .table) ≡ n
 unfolding roomy capacity
@@ -212,7 +218,7 @@ module _ {W m : ℕ} {S : List ℕ} (count : Reply → ℕ) (call : ℕ → Call
     no-less n bounds =
         let r = read (roomy (length S)) (omega (arith, roomy-capacity (length S) few)) in
         let end : State = end-state after (making W S) (roomy (length S)) in
-        omega (arith, r .reads [], bounds k (end .header) (end .table) [] S (r .held) (r .width))
+        omega (arith, r .reads [], bounds k (end .header) (end .table) [] (entriesFor S) (r .held) (r .width))
 
 pub least-bounds : (W : ℕ) → 1 ≤ W → W ≤ 32 → LeastBounds after W
 unfolding mostRows mostMoved

@@ -1,3 +1,4 @@
+pub mod Words
 pub mod Numbers
 pub mod Unfolding
 pub mod Links
@@ -13,7 +14,6 @@ pub mod Refusals
 pub mod RowsRead
 pub mod Answered
 pub mod Spelled
-pub mod Writes
 pub mod Rewritten
 pub mod Added
 pub mod Erasures

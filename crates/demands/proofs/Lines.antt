@@ -9,6 +9,8 @@ use lib.Dec.{ltb, eqb}
 use lib.ListN.{length, take, drop}
 use lib.Seq.{take-at}
 use Rattle.ordered.specs.Such.{if_then_else_}
+use Rattle.ordered.specs.Dictionary.{words}
+use Rattle.ordered.proofs.OneTree.{words-length}
 use Rattle.pretree.specs.declared.Header.{Header}
 use Rattle.pretree.specs.declared.Call.{Call}
 use Rattle.pretree.specs.declared.Call.the-variants.{New, Add, Del, Has, Next, Prev, Gap, First, Last, Audit}
@@ -70,11 +72,11 @@ set-found works width some = some
 list-listed : (k : Kept) (table : List ℕ) (left : After) (b : Bool)
     → let said = if b then only 6 else only 0 in
     Keeps said (if eqb (said .number) 0 then changed Call.List k else k) table left
-    → take (listedIn (left .reply)) (left .buffer) ≡ (if eqb (said .number) 0 then k .set else [])
+    → take (listedIn (left .reply)) (left .buffer) ≡ (if eqb (said .number) 0 then words (k .set) else [])
 unfolding changed
 list-listed k table left true keeps = rw (ap (λ x. x .number) (keeps .answer))
 list-listed k table left false keeps =
-    rw (ap (λ x. x .number) (keeps .answer), keeps .written, ← keeps .held .holds .number) (take-at (k .set) (drop (length (k .set)) (k .buffer)) (length (k .set)) refl)
+    rw (ap (λ x. x .number) (keeps .answer), keeps .written, ← keeps .held .holds .number) (take-at (words (k .set)) (drop (length (k .set)) (k .buffer)) (length (k .set)) (words-length (k .set)))
 
 words-listed : (c : Call) (k : Kept) (table : List ℕ) (left : After) → Keeps (expected c 4096 k) (kept-after c 4096 k) table left
     → take (listedBy c (left .reply)) (left .buffer) ≡ listed-on-set (kindOf c) (expected c 4096 k .number) (k .set)

@@ -16,6 +16,7 @@ use Rattle.ordered.proofs.Parts.{each-of-all}
 use Rattle.pretree.specs.declared.Row.{Row}
 use Rattle.pretree.specs.Table.{link}
 use Rattle.pretree.specs.Unfold.{unfolded}
+use Rattle.pretree.proofs.Rows.{linking}
 use Rattle.demands.specs.Numbers.{numbers, often, renamed}
 use Rattle.demands.proofs.Unfolding.{no-link, along-link, key, hanging, Opened, opened, numbers-in-use, no-row-twice, relinked, Moved, unfolded-renamed}
 
@@ -118,11 +119,6 @@ module _
 -- the row numbers after the last row has moved into the hole
 unfoldable pub moved-into : ℕ → ℕ → ℕ → ℕ
 moved-into hole last j = if eqb j last then hole else j
-
--- the row whose link on side s is j
-abbrev pub linking : Side → ℕ → Row → Row
-linking left j r = record { entry = r .entry; left = j; right = r .right }
-linking right j r = record { entry = r .entry; left = r .left; right = j }
 
 -- the rows of a tree after "move, set the link": the last row stands in the hole, and the link that named it names the hole
 pub record LastMoved (rows rows′ : ℕ → Row) (hole last parent : ℕ) (s : Side) (t : Tree) : Type 0 where

@@ -1,6 +1,6 @@
 -- What the dictionary keeps after `new` and an `add` of each word of a set, in increasing order: that set. So the calls lead to a table that
 -- holds it, and its last row has the greatest word.
-use Prim.Native.Nat.{ℕ, pred, _^_, _≤_, _<_}
+use Prim.Native.Nat.{ℕ, suc, pred, _^_, _≤_, _<_}
 use mathlib.Core.Path.{_≡_, refl, sym, ap, subst, _∙_}
 use mathlib.Core.Bool.{false}
 use mathlib.Core.List.{List, [], _∷_, _++_, append-nil, append-assoc, List·Memᴰ·head, Memᴰ·append-left, Memᴰ·append-right}
@@ -8,11 +8,12 @@ use native.Mathlib.Omega.{arith}
 use lib.Dec.{leb, eqb}
 use lib.ListN.{length, length-append}
 use borrow.Author.Tests.{lt-leb, ne-eqb}
-use Rattle.ordered.specs.Dictionary.{Increasing, insert}
+use Rattle.ordered.specs.Dictionary.{Entry, words, Increasing, insert}
 use Rattle.ordered.specs.Said.{_∈_}
 use Rattle.ordered.proofs.Lists.{increasing-parts}
-use Rattle.ordered.proofs.Parts.{all-of-each, none-all, insert-between}
+use Rattle.ordered.proofs.Parts.{none-all, insert-between}
 use Rattle.pretree.specs.Table.{capacity, rowAt}
+use Rattle.pretree.specs.Add.{entryFor}
 use Rattle.pretree.specs.Reply.{wrong-width}
 use Rattle.pretree.specs.Whole.{newReply, newTable}
 use Rattle.pretree.specs.Call.{after}
@@ -21,37 +22,58 @@ use Rattle.pretree.specs.declared.Call.the-variants.{New, Add}
 use Rattle.demands.specs.Expected.{Kept, expected, changed, kept-after, kept-at-end}
 use Rattle.demands.specs.Program.{State, state-after, end-state}
 use Rattle.demands.specs.Demand2.{HoldsKept, Sequence, empty-state, empty-kept}
-use Rattle.demands.specs.Reached.{SetOf, asked, adds, making}
+use Rattle.demands.specs.Reached.{SetOf, entriesFor, asked, adds, making}
+use Rattle.demands.proofs.Words.{all-words}
 use Rattle.demands.proofs.Owned.{new-kept}
 use Rattle.demands.proofs.Added.{greatest-absent, last-row-takes}
 use Rattle.demands.proofs.Demand2.{empty-holds, sequences}
 
--- the words S, with no buffer
-abbrev pub words : ℕ → List ℕ → Kept
-words W S = record { width = W; set = S; buffer = [] }
+-- the set S, with no buffer
+abbrev pub keeping : ℕ → List Entry → Kept
+keeping W S = record { width = W; set = S; buffer = [] }
+
+-- the entries for some words
+pub words-for : (xs : List ℕ) → words (entriesFor xs) ≡ xs
+words-for [] = refl
+words-for (x ∷ xs) = ap (λ ys. x ∷ ys) (words-for xs)
+
+pub length-for : (xs : List ℕ) → length (entriesFor xs) ≡ length xs
+length-for [] = refl
+length-for (x ∷ xs) = ap suc (length-for xs)
+
+pub append-for : (xs ys : List ℕ) → entriesFor (xs ++ ys) ≡ entriesFor xs ++ entriesFor ys
+append-for [] ys = refl
+append-for (x ∷ xs) ys = ap (λ es. entryFor x ∷ es) (append-for xs ys)
 
 -- a word that is greater than all the others, for which there is room
-module _ (W room x : ℕ) (S : List ℕ) (narrow : x < 2 ^ W) (greatest : (y : ℕ) → y ∈ S → y < x) (few : length S < room) where
-  put-last : insert x S ≡ S ++ (x ∷ [])
-  unfolding insert
-  put-last =
-      ap (insert x) (sym (append-nil S)) ∙ insert-between x S [] [] (all-of-each S greatest) none-all
+module _
+    (W room x : ℕ) (S : List Entry) (narrow : x < 2 ^ W) (greatest : (y : ℕ) → y ∈ words S → y < x) (few : length S < room)
+  where
+    abbrev new : Entry
+    new = entryFor x
 
-  pub add-keeps : kept-after (Add x) room (words W S) ≡ words W (S ++ (x ∷ []))
-  unfolding kept-after expected changed
-  add-keeps = rw (lt-leb (2 ^ W) x narrow, greatest-absent x S greatest, ne-eqb (length S) room (λ same. omega arith), put-last)
+    put-last : insert new S ≡ S ++ (new ∷ [])
+    unfolding insert
+    put-last = ap (insert new) (sym (append-nil S)) ∙ insert-between new S [] [] (all-words S greatest) none-all
+
+    pub add-keeps : kept-after (Add x) room (keeping W S) ≡ keeping W (S ++ (new ∷ []))
+    unfolding kept-after expected changed
+    add-keeps = rw (lt-leb (2 ^ W) x narrow, greatest-absent x S greatest, ne-eqb (length S) room (λ same. omega arith), put-last)
 
 pub adds-keep :
     (W room : ℕ) (S xs : List ℕ) → Increasing (S ++ xs) → ((x : ℕ) → x ∈ S ++ xs → x < 2 ^ W) → length (S ++ xs) ≤ room
-    → kept-at-end (adds xs) room (words W S) ≡ words W (S ++ xs)
+    → kept-at-end (adds xs) room (keeping W (entriesFor S)) ≡ keeping W (entriesFor (S ++ xs))
 unfolding kept-at-end adds
 adds-keep W room S [] rising below few = rw append-nil
 adds-keep W room S (x ∷ xs) rising below few =
     let same : (S ++ (x ∷ [])) ++ xs ≡ S ++ (x ∷ xs) = append-assoc S (x ∷ []) xs in
-    let one : kept-after (Add x) room (words W S) ≡ words W (S ++ (x ∷ [])) =
-    add-keeps W room x S (below x (Memᴰ·append-right S (List·Memᴰ·head refl)))
-    (λ y there. increasing-parts S (x ∷ xs) rising .2 y x there (List·Memᴰ·head refl)) (omega (arith, length-append S (x ∷ xs))) in
-    ap (kept-at-end (adds xs) room) one ∙ adds-keep W room (S ++ (x ∷ [])) xs (rw same rising) (rw same below) (rw same few) ∙ ap (words W) same
+    let one : kept-after (Add x) room (keeping W (entriesFor S)) ≡ keeping W (entriesFor (S ++ (x ∷ []))) =
+    add-keeps W room x (entriesFor S) (below x (Memᴰ·append-right S (List·Memᴰ·head refl)))
+    (λ y there. increasing-parts S (x ∷ xs) rising .2 y x (rw (words-for S) at there) (List·Memᴰ·head refl))
+    (omega (arith, length-append S (x ∷ xs), length-for S))
+    ∙ ap (keeping W) (sym (append-for S (x ∷ []))) in
+    ap (kept-at-end (adds xs) room) one ∙ adds-keep W room (S ++ (x ∷ [])) xs (rw same rising) (rw same below) (rw same few)
+    ∙ ap (λ ys. keeping W (entriesFor ys)) same
 
 -- `new` leaves an empty set, whatever was there
 new-empties : (W : ℕ) (s : State) → wrong-width W ≡ false → state-after after (asked (New W)) s ≡ empty-state W (newTable (s .table) W)
@@ -75,9 +97,9 @@ module _ (W : ℕ) (S : List ℕ) (s : State) (right : wrong-width W ≡ false) 
   unfolding end-state
   as-added = ap (end-state after (adds S)) (new-empties W s right)
 
-  pub made : HoldsKept (end-state after (making W S) s) (words W S)
+  pub made : HoldsKept (end-state after (making W S) s) (keeping W (entriesFor S))
   made =
-      let all : kept-at-end (adds S) (capacity (empty .table)) (empty-kept W) ≡ words W S =
+      let all : kept-at-end (adds S) (capacity (empty .table)) (empty-kept W) ≡ keeping W (entriesFor S) =
       adds-keep W (capacity (empty .table)) [] S (set .increasing) (set .below) (omega (arith, room-after-new)) in
       rw as-added (subst (HoldsKept added) all (all-added .at-end))
 
@@ -116,7 +138,7 @@ module _ (W : ℕ) (S : List ℕ) (x : ℕ) (s : State) (right : wrong-width W �
         rw (here .width) (lt-leb (2 ^ W) x (set .below x (Memᴰ·append-right S (List·Memᴰ·head refl)))) in
         let not-full : eqb (before-last .header .count) (capacity (before-last .table)) ≡ false =
         ne-eqb (before-last .header .count) (capacity (before-last .table)) (λ same.
-        omega (arith, here .held .holds .number, same-room W S s right others (omega arith))) in
+        omega (arith, here .held .holds .number, length-for S, same-room W S s right others (omega arith))) in
         ap last-key (adds-both S (x ∷ []) (state-after after (asked (New W)) s))
-        ∙ last-row-takes (before-last .header) (before-last .table) S (here .held) x small not-full
-        (λ y there. increasing-parts S (x ∷ []) (set .increasing) .2 y x there (List·Memᴰ·head refl))
+        ∙ last-row-takes (before-last .header) (before-last .table) (entriesFor S) (here .held) (entryFor x) small not-full
+        (λ y there. increasing-parts S (x ∷ []) (set .increasing) .2 y x (rw (words-for S) at there) (List·Memᴰ·head refl))

@@ -11,9 +11,10 @@ use lib.Pow.{pow-pos, pow-add}
 use borrow.Author.Tests.{ltb-true, eq-eqb}
 use Rattle.ordered.specs.Word.{Side, left, right, bitOf}
 use Rattle.ordered.specs.Dictionary.{Above, one-above, Increasing, one-increasing}
-use Rattle.ordered.specs.Tree.{Tree, none, row, damaged, part, listing, intact}
+use Rattle.ordered.specs.Tree.{Tree, none, row, damaged, part, entries, listing, intact}
 use Rattle.ordered.specs.Proper.{Proper}
 use Rattle.ordered.proofs.Lists.{increasing-parts}
+use Rattle.ordered.proofs.Parts.{words-append}
 use Rattle.pretree.specs.declared.Row.{Row}
 use Rattle.pretree.specs.Table.{link}
 use Rattle.pretree.specs.Unfold.{ends-there, unfolded}
@@ -56,10 +57,10 @@ met-in d path (row i e l r) =
 met-in d path damaged = []
 
 pub keys-met : (d path : ℕ) (t : Tree) → keysOf (met-in d path t) ≡ listing t
-unfolding met-in keysOf listing
+unfolding met-in keysOf entries
 keys-met d path none = refl
 keys-met d path (row i e l r) =
-    rw (keys-append, keys-met (suc d) (path * 2 + bitOf left) l, keys-met (suc d) (path * 2 + bitOf right) r)
+    rw (keys-append, words-append, keys-met (suc d) (path * 2 + bitOf left) l, keys-met (suc d) (path * 2 + bitOf right) r)
 keys-met d path damaged = refl
 
 numbers-met : (d path : ℕ) (t : Tree) → map (λ x. x .at) (met-in d path t) ≡ numbers t

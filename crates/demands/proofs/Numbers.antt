@@ -12,7 +12,7 @@ use lib.ListN.{length, length-append}
 use borrow.Author.Tests.{ltb-true, ltb-false, eqb-true, eqb-false, lt-ltb, le-ltb, ne-eqb}
 use Rattle.ordered.specs.Such.{if_then_else_}
 use Rattle.ordered.specs.Dictionary.{Above, none-above, one-above, Increasing, none-increasing, one-increasing}
-use Rattle.ordered.specs.Tree.{Tree, none, row, damaged, listing, size, intact, unnumbered}
+use Rattle.ordered.specs.Tree.{Tree, none, row, damaged, entries, size, intact, unnumbered}
 use Rattle.ordered.proofs.Parts.{All, none-all, one-all}
 use Rattle.demands.specs.Numbers.{numbers, often, renamed}
 
@@ -118,11 +118,11 @@ intact-unnumbered none = refl
 intact-unnumbered (row i e l r) = ap₂ _&&_ (intact-unnumbered l) (intact-unnumbered r)
 intact-unnumbered damaged = refl
 
-pub listing-unnumbered : (t : Tree) → listing (unnumbered t) ≡ listing t
-unfolding listing unnumbered
-listing-unnumbered none = refl
-listing-unnumbered (row i e l r) = rw (listing-unnumbered l, listing-unnumbered r)
-listing-unnumbered damaged = refl
+pub entries-unnumbered : (t : Tree) → entries (unnumbered t) ≡ entries t
+unfolding entries unnumbered
+entries-unnumbered none = refl
+entries-unnumbered (row i e l r) = rw (entries-unnumbered l, entries-unnumbered r)
+entries-unnumbered damaged = refl
 
 -- what a tree with other numbers keeps
 module _ (σ : ℕ → ℕ) where

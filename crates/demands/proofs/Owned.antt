@@ -7,15 +7,16 @@ use mathlib.Core.Bool.{Bool, true, false, not, _&&_, _||_, false≢true}
 use mathlib.Core.List.{List, _++_}
 use native.Mathlib.Omega.{arith}
 use lib.Dec.{ltb, eqb}
-use lib.ListN.{length, getD, drop, replicate, set, length-append, length-drop, length-replicate, length-set}
-use lib.Seq.{getD-append-add, getD-drop, getD-set-other}
+use lib.ListN.{length, getD, drop, replicate, length-append, length-drop, length-replicate}
+use lib.Seq.{getD-append-add, getD-drop}
 use borrow.Author.Tests.{ltb-true, ltb-false, eqb-false, not-false}
-use Rattle.ordered.specs.Such.{if_then_else_, Perhaps, no-such, such, only-if, anything}
+use Rattle.ordered.specs.Such.{if_then_else_, Perhaps, no-such, such, only-if, anything, isThere}
 use Rattle.ordered.specs.Word.{Side, left, right, bitOf}
-use Rattle.ordered.specs.Tree.{Tree, none, row, damaged, Entry, part, listing}
+use Rattle.ordered.specs.Dictionary.{Entry}
+use Rattle.ordered.specs.Tree.{Tree, none, row, damaged, part, listing}
 use Rattle.ordered.specs.Way.{Step, Way, Rule, way, rows, joined, following, pushing, down, broken}
-use Rattle.ordered.specs.Reading.{keyAt}
-use Rattle.ordered.specs.Change.{Take, pushed, raised, isThere, ends-at, numberAt, entryAt, above-end, Adding, adding-by, adding, Erasing, erasing-by, erasing}
+use Rattle.ordered.specs.Reading.{wordIn, root-row}
+use Rattle.ordered.specs.Change.{Take, pushed, raised, ends-at, numberAt, entryAt, above-end, Adding, adding-by, adding, Erasing, erasing-by, erasing}
 use Rattle.ordered.proofs.Parts.{All, none-all, one-all, all-append, If-such, last-such-one}
 use Rattle.ordered.proofs.Ways.{along}
 use Rattle.ordered.proofs.OneTree.{listing-length}
@@ -23,13 +24,14 @@ use Rattle.pretree.specs.declared.Header.{Header}
 use Rattle.pretree.specs.declared.Row.{Row}
 use Rattle.pretree.specs.declared.Answer.the-variants.{Done, WrongHeader, WordTooWide, Damage, Full, AlreadyThere, NoSuchWord}
 use Rattle.pretree.specs.declared.Reply.{Reply}
-use Rattle.pretree.specs.Table.{capacity, rowAt, link, withKey, withLink, withRow, cleared}
+use Rattle.pretree.specs.Table.{rowWords, capacity, rowAt, entryOf, link, leafRow, withEntry, withLink, withRow, cleared}
 use Rattle.pretree.specs.Unfold.{judged, linked, unfolded, shown}
 use Rattle.pretree.specs.Reply.{wrong-width, wrong-header, too-wide, refused, answered}
 use Rattle.pretree.specs.Sound.{isSound}
 use Rattle.pretree.specs.Whole.{newTable, listBuffer}
 use Rattle.pretree.specs.Add.{Outcome, taking, hooking, grown, addOutcome}
 use Rattle.pretree.specs.Del.{secondWay, astray, moving, shrunk, delOutcome}
+use Rattle.pretree.proofs.Rows.{entry-length, link-length, row-length, entry-past, link-past, row-past}
 use Rattle.pretree.proofs.Checks.{right-header}
 use Rattle.demands.specs.Refusals.{SameFrom}
 use Rattle.demands.proofs.Unfolding.{both}
@@ -62,14 +64,14 @@ module _ (c : ℕ) where
 
     unfolded-in-use : (m path low i : ℕ) → InUse c (unfolded rows n m path low i)
     unfolding InUse unfolded
-    unfolded-in-use zero path low i = row-in-use zero path low i (record { key = rows i .entry .key }) none none tt tt
+    unfolded-in-use zero path low i = row-in-use zero path low i (entryOf (rows i)) none none tt tt
     unfolded-in-use (suc m) path low i =
         let low′ : ℕ = suc (rows i .entry .key) in
         let below : Side → Tree = λ s. linked (unfolded rows n m (path * 2 + bitOf s) low′) (link (rows i) s) in
         let used : (s : Side) → InUse c (below s) =
         λ s. linked-in-use (unfolded rows n m (path * 2 + bitOf s) low′) (unfolded-in-use m (path * 2 + bitOf s) low′) (link (rows i) s)
         in
-        row-in-use (suc m) path low i (record { key = rows i .entry .key }) (below left) (below right) (used left) (used right)
+        row-in-use (suc m) path low i (entryOf (rows i)) (below left) (below right) (used left) (used right)
 
   shown-in-use : (h : Header) (table : List ℕ) → h .count ≤ c → InUse c (shown h table)
   unfolding shown InUse
@@ -94,11 +96,11 @@ module _ (c : ℕ) where
       (one-all (u .0) (below .0), below .1))
 
   -- a way that ends at a key ends at a row
-  ended-in-use : (k : ℕ) (t : Tree) → InUse c t → isThere (only-if (eqb k) (keyAt t)) ≡ true → 0 < c
+  ended-in-use : (k m : ℕ) (t : Tree) → InUse c t → isThere (only-if (λ f. eqb k (wordIn f)) (root-row m t)) ≡ true → 0 < c
   unfolding InUse
-  ended-in-use k none u there = absurd (false≢true there)
-  ended-in-use k (row i e l r) u there = omega (arith, u .0)
-  ended-in-use k damaged u there = absurd (false≢true there)
+  ended-in-use k m none u there = absurd (false≢true there)
+  ended-in-use k m (row i e l r) u there = omega (arith, u .0)
+  ended-in-use k m damaged u there = absurd (false≢true there)
 
   number-in-use : (t : Tree) → 0 < c → InUse c t → numberAt t < c
   unfolding InUse
@@ -127,22 +129,22 @@ module _ (c : ℕ) where
   unfolding joined
   joined-in-use w v us vs = last-such-one anything (all-append us vs)
 
-  adding-in-use : (m k : ℕ) (t : Tree) → InUse c t → Taken (adding m k t .takes) × Hooked (adding m k t .hook)
+  adding-in-use : (m : ℕ) (new : Entry) (t : Tree) → InUse c t → Taken (adding m new t .takes) × Hooked (adding m new t .hook)
   unfolding adding
-  adding-in-use m k t u = by-cases (ends-at k w)
+  adding-in-use m new t u = by-cases (ends-at (new .key) w)
     where
       w : Way
-      w = way (following k) m t
+      w = way (following (new .key)) m t
 
       push : Way
       push = way pushing (w .bits) (w .end)
 
-      by-cases : (b : Bool) → Taken (adding-by k w push (joined w push) b .takes) × Hooked (adding-by k w push (joined w push) b .hook)
+      by-cases : (b : Bool) → Taken (adding-by new w push (joined w push) b .takes) × Hooked (adding-by new w push (joined w push) b .hook)
       by-cases true = (none-all, tt)
       by-cases false =
-          let us = way-in-use (following k) m t u in
+          let us = way-in-use (following (new .key)) m t u in
           let vs = way-in-use pushing (w .bits) (w .end) (us .1) in
-          (pushed-in-use (record { key = k }) (vs .0), joined-in-use w push (us .0) (vs .0))
+          (pushed-in-use new (vs .0), joined-in-use w push (us .0) (vs .0))
 
   -- the rows that an erase writes
   record Erased (e : Erasing) : Type 0 where
@@ -167,7 +169,7 @@ module _ (c : ℕ) where
       by-cases true ends there =
           let us = way-in-use (following k) m t u in
           let vs = way-in-use (down left) (w .bits) (w .end) (us .1) in
-          let some : 0 < c = ended-in-use k (w .end) (us .1) ends in
+          let some : 0 < c = ended-in-use k (w .bits) (w .end) (us .1) ends in
           record {
             some = some;
             takes = raised-in-use (entryAt (stretch .end)) (vs .0);
@@ -183,58 +185,48 @@ module _ (n : ℕ) where
   same-twice x y =
       record { same-length = y .same-length ∙ x .same-length; same-words = λ i past. y .same-words i past ∙ x .same-words i past }
 
-  same-set : (words : List ℕ) (i v : ℕ) → i < n → SameFrom n words (set words i v)
-  same-set words i v owned =
-      record { same-length = length-set words i v; same-words = λ j past. getD-set-other words i j v 0 (λ same. omega arith) }
-
--- the writes to a row below c change no word from 3c on
+-- the writes to a row below c change no word past the first c rows
 module _ (c : ℕ) where
   abbrev Kept : List ℕ → List ℕ → Type 0
-  Kept = SameFrom (3 * c)
+  Kept = SameFrom (rowWords * c)
 
-  key-kept : (i k : ℕ) (table : List ℕ) → i < c → Kept table (withKey i k table)
-  unfolding withKey
-  key-kept i k table owned = same-set (3 * c) table (3 * i) k (omega arith)
+  entry-kept : (i : ℕ) (e : Entry) (table : List ℕ) → i < c → Kept table (withEntry i e table)
+  entry-kept i e table owned =
+      record { same-length = entry-length i e table; same-words = λ p past. entry-past c p past i owned table e }
 
   link-kept : (i : ℕ) (s : Side) (j : ℕ) (table : List ℕ) → i < c → Kept table (withLink i s j table)
-  unfolding withLink
-  link-kept i left j table owned = same-set (3 * c) table (3 * i + 1 + 0) j (omega arith)
-  link-kept i right j table owned = same-set (3 * c) table (3 * i + 1 + 1) j (omega arith)
+  link-kept i s j table owned =
+      record { same-length = link-length i s j table; same-words = λ p past. link-past c p past i owned table s j }
 
   row-kept : (i : ℕ) (r : Row) (table : List ℕ) → i < c → Kept table (withRow i r table)
-  unfolding withRow
   row-kept i r table owned =
-      let keyed : List ℕ = set table (3 * i) (r .entry .key) in
-      let half : List ℕ = set keyed (suc (3 * i)) (r .left) in
-      same-twice (3 * c) (same-set (3 * c) table (3 * i) (r .entry .key) (omega arith))
-      (same-twice (3 * c) (same-set (3 * c) keyed (suc (3 * i)) (r .left) (omega arith))
-      (same-set (3 * c) half (suc (suc (3 * i))) (r .right) (omega arith)))
+      record { same-length = row-length i r table; same-words = λ p past. row-past c p past i owned table r }
 
   taking-kept : {ts : List Take} (table : List ℕ) → Taken c ts → Kept table (taking ts table)
   unfolding taking
-  taking-kept table none-all = same-all (3 * c)
+  taking-kept table none-all = same-all (rowWords * c)
   taking-kept table (one-all {x} u us) =
-      same-twice (3 * c) (key-kept (x .at) (x .entry .key) table u) (taking-kept (withKey (x .at) (x .entry .key) table) us)
+      same-twice (rowWords * c) (entry-kept (x .at) (x .entry) table u) (taking-kept (withEntry (x .at) (x .entry) table) us)
 
   hooking-kept : (p : Perhaps Step) (i : ℕ) (table : List ℕ) → Hooked c p → Kept table (hooking p i table)
-  hooking-kept no-such i table u = same-all (3 * c)
+  hooking-kept no-such i table u = same-all (rowWords * c)
   hooking-kept (such s) i table u = link-kept (s .at) (s .turn) i table u
 
   grown-kept : (count : ℕ) (a : Adding) (table : List ℕ) → count < c → Taken c (a .takes) → Hooked c (a .hook) → Kept table (grown count a table)
   unfolding grown
   grown-kept count a table room takes hook =
       let taken : List ℕ = taking (a .takes) table in
-      same-twice (3 * c) (taking-kept table takes)
-      (same-twice (3 * c) (hooking-kept (a .hook) count taken hook)
-      (row-kept count (record { entry = record { key = a .new-entry .key }; left = 0; right = 0 }) (hooking (a .hook) count taken) room))
+      same-twice (rowWords * c) (taking-kept table takes)
+      (same-twice (rowWords * c) (hooking-kept (a .hook) count taken hook)
+      (row-kept count (leafRow (a .new-entry)) (hooking (a .hook) count taken) room))
 
   shrunk-kept : (last : ℕ) (e : Erasing) (second : Way) (moves : Bool) (table : List ℕ)
       → last < c → Erased c e → Hooked c (above-end second) → Kept table (shrunk last e second moves table)
   unfolding shrunk moving
   shrunk-kept last e second moves table owned erased hook =
-      same-twice (3 * c) (taking-kept table (erased .takes))
-      (same-twice (3 * c) (hooking-kept (e .hook) 0 taken (erased .hook))
-      (same-twice (3 * c) (by-cases moves) (row-kept last cleared (if moves then moved else unlinked) owned)))
+      same-twice (rowWords * c) (taking-kept table (erased .takes))
+      (same-twice (rowWords * c) (hooking-kept (e .hook) 0 taken (erased .hook))
+      (same-twice (rowWords * c) (by-cases moves) (row-kept last cleared (if moves then moved else unlinked) owned)))
     where
       taken : List ℕ
       taken = taking (e .takes) table
@@ -250,19 +242,56 @@ module _ (c : ℕ) where
 
       by-cases : (b : Bool) → Kept unlinked (if b then moved else unlinked)
       by-cases true =
-          same-twice (3 * c) (row-kept (e .hole) (rowAt unlinked last) unlinked (erased .hole))
+          same-twice (rowWords * c) (row-kept (e .hole) (rowAt unlinked last) unlinked (erased .hole))
           (hooking-kept (above-end second) (e .hole) into-hole hook)
-      by-cases false = same-all (3 * c)
+      by-cases false = same-all (rowWords * c)
 
 -- what a test says may be used on its side
 pub by-test : {X : Type 0} (P : X → Type 0) (t : Bool) {x y : X} → (t ≡ true → P x) → (t ≡ false → P y) → P (if t then x else y)
 by-test P true if-so if-not = if-so refl
 by-test P false if-so if-not = if-not refl
 
-module _ (h : Header) (table : List ℕ) (k : ℕ) where
-  abbrev a : Adding
-  a = adding (h .width) k (shown h table)
+-- an outcome in which no word past the rows is another
+abbrev Keeps : List ℕ → Outcome → Type 0
+Keeps table o = Kept (capacity table) table (o .table)
 
+-- where a call doesn't write, it leaves the header and the table
+abbrev Unchanged : Header → List ℕ → (Outcome → Type 0) → Type 0
+Unchanged h table P = (r : Reply) → r .header ≡ h → P (record { reply = r; table = table })
+
+module _ (h : Header) (table : List ℕ) (new : Entry) where
+  abbrev a : Adding
+  a = adding (h .width) new (shown h table)
+
+  -- what `add` leaves where it writes
+  abbrev pub added : Outcome
+  added =
+      record {
+        reply = answered (record { width = h .width; count = suc (h .count) }) Done (rows (a .rows-read));
+        table = grown (h .count) a table;
+      }
+
+  -- no row from number c on is another then, where the rows in use, with the new one, are below c
+  pub added-kept : (c : ℕ) → h .count < c → Kept c table (added .table)
+  added-kept c room =
+      let used = adding-in-use c (h .width) new (shown h table) (shown-in-use c h table (omega arith)) in
+      grown-kept c (h .count) a table room (used .0) (used .1)
+
+  -- what holds where `add` doesn't write, and of the outcome above, holds of every outcome
+  pub add-outcome : (P : Outcome → Type 0) → Unchanged h table P → (h .count < capacity table → P added) → P (addOutcome h table new)
+  unfolding addOutcome
+  add-outcome P unchanged written =
+      by-test P (wrong-header h table) (λ wrong. unchanged (refused h WrongHeader) refl)
+      (λ right. by-test P (too-wide h (new .key)) (λ wide. unchanged (refused h WordTooWide) refl)
+      (λ narrow. by-test P (broken (a .rows-read)) (λ damage. unchanged (refused h Damage) refl)
+      (λ whole. by-test P (a .present) (λ there. unchanged (answered h AlreadyThere (rows (a .rows-read))) refl)
+      (λ absent. by-test P (eqb (h .count) (capacity table)) (λ full. unchanged (refused h Full) refl)
+      (λ room. written (omega (arith, right-header h table right .has-room, eqb-false (h .count) (capacity table) room)))))))
+
+  pub add-kept : Keeps table (addOutcome h table new)
+  add-kept = add-outcome (Keeps table) (λ r same. same-all (rowWords * capacity table)) (added-kept (capacity table))
+
+module _ (h : Header) (table : List ℕ) (k : ℕ) where
   abbrev e : Erasing
   e = erasing (h .width) k (shown h table)
 
@@ -275,14 +304,7 @@ module _ (h : Header) (table : List ℕ) (k : ℕ) where
   abbrev second : Way
   second = secondWay h table
 
-  -- what `add` and `del` leave where they write
-  abbrev pub added : Outcome
-  added =
-      record {
-        reply = answered (record { width = h .width; count = suc (h .count) }) Done (rows (a .rows-read));
-        table = grown (h .count) a table;
-      }
-
+  -- what `del` leaves where it writes
   abbrev pub removed : Outcome
   removed =
       record {
@@ -296,12 +318,6 @@ module _ (h : Header) (table : List ℕ) (k : ℕ) where
         table = shrunk last e second moves table;
       }
 
-  -- no row from number c on is another then, where the rows in use, with the new one, are below c
-  pub added-kept : (c : ℕ) → h .count < c → Kept c table (added .table)
-  added-kept c room =
-      let used = adding-in-use c (h .width) k (shown h table) (shown-in-use c h table (omega arith)) in
-      grown-kept c (h .count) a table room (used .0) (used .1)
-
   pub removed-kept : (c : ℕ) → h .count ≤ c → e .present ≡ true → Kept c table (removed .table)
   unfolding secondWay
   removed-kept c fits present =
@@ -312,36 +328,19 @@ module _ (h : Header) (table : List ℕ) (k : ℕ) where
       shrunk-kept c last e second moves table owned (erasing-in-use c (h .width) k (shown h table) used present)
       (last-such-one anything (second-used .0))
 
-  -- where they don't write, they leave the header and the table: what holds of such an outcome and of that above holds of every one
-  module _ (P : Outcome → Type 0) (unchanged : (r : Reply) → r .header ≡ h → P (record { reply = r; table = table })) where
-    pub add-outcome : (h .count < capacity table → P added) → P (addOutcome h table k)
-    unfolding addOutcome
-    add-outcome written =
-        by-test P (wrong-header h table) (λ wrong. unchanged (refused h WrongHeader) refl)
-        (λ right. by-test P (too-wide h k) (λ wide. unchanged (refused h WordTooWide) refl)
-        (λ narrow. by-test P (broken (a .rows-read)) (λ damage. unchanged (refused h Damage) refl)
-        (λ whole. by-test P (a .present) (λ there. unchanged (answered h AlreadyThere (rows (a .rows-read))) refl)
-        (λ absent. by-test P (eqb (h .count) (capacity table)) (λ full. unchanged (refused h Full) refl)
-        (λ room. written (omega (arith, right-header h table right .has-room, eqb-false (h .count) (capacity table) room)))))))
+  pub del-outcome :
+      (P : Outcome → Type 0) → Unchanged h table P → (h .count ≤ capacity table → e .present ≡ true → P removed) → P (delOutcome h table k)
+  unfolding delOutcome
+  del-outcome P unchanged written =
+      by-test P (wrong-header h table) (λ wrong. unchanged (refused h WrongHeader) refl)
+      (λ right. by-test P (too-wide h k) (λ wide. unchanged (refused h WordTooWide) refl)
+      (λ narrow. by-test P (broken (e .rows-read)) (λ damage. unchanged (refused h Damage) refl)
+      (λ whole. by-test P (not (e .present)) (λ absent. unchanged (answered h NoSuchWord (rows (e .rows-read))) refl)
+      (λ there. by-test P (moves && (broken second || astray h table second)) (λ damage. unchanged (refused h Damage) refl)
+      (λ led. written (right-header h table right .has-room) (not-false (e .present) there))))))
 
-    pub del-outcome : (h .count ≤ capacity table → e .present ≡ true → P removed) → P (delOutcome h table k)
-    unfolding delOutcome
-    del-outcome written =
-        by-test P (wrong-header h table) (λ wrong. unchanged (refused h WrongHeader) refl)
-        (λ right. by-test P (too-wide h k) (λ wide. unchanged (refused h WordTooWide) refl)
-        (λ narrow. by-test P (broken (e .rows-read)) (λ damage. unchanged (refused h Damage) refl)
-        (λ whole. by-test P (not (e .present)) (λ absent. unchanged (answered h NoSuchWord (rows (e .rows-read))) refl)
-        (λ there. by-test P (moves && (broken second || astray h table second)) (λ damage. unchanged (refused h Damage) refl)
-        (λ led. written (right-header h table right .has-room) (not-false (e .present) there))))))
-
-  abbrev Keeps : Outcome → Type 0
-  Keeps o = Kept (capacity table) table (o .table)
-
-  pub add-kept : Keeps (addOutcome h table k)
-  add-kept = add-outcome Keeps (λ r same. same-all (3 * capacity table)) (added-kept (capacity table))
-
-  pub del-kept : Keeps (delOutcome h table k)
-  del-kept = del-outcome Keeps (λ r same. same-all (3 * capacity table)) (removed-kept (capacity table))
+  pub del-kept : Keeps table (delOutcome h table k)
+  del-kept = del-outcome (Keeps table) (λ r same. same-all (rowWords * capacity table)) (removed-kept (capacity table))
 
 -- a front of n words written anew
 front-kept : (n : ℕ) (front words : List ℕ) → length front ≡ n → n ≤ length words → SameFrom n words (front ++ drop n words)
@@ -356,10 +355,10 @@ front-kept n front words long room =
           ∙ ap (λ j. getD words j 0) back;
     }
 
-pub new-kept : (table : List ℕ) (W : ℕ) → SameFrom (3 * capacity table) table (newTable table W)
+pub new-kept : (table : List ℕ) (W : ℕ) → SameFrom (rowWords * capacity table) table (newTable table W)
 unfolding newTable capacity
 new-kept table W =
-    let words : ℕ = 3 * capacity table in
+    let words : ℕ = rowWords * capacity table in
     by-test (SameFrom words table) (wrong-width W) (λ e. same-all words)
     (λ right. front-kept words (replicate words 0) table (length-replicate words 0) (omega arith))
 

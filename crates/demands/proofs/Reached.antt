@@ -2,39 +2,41 @@
 use Prim.Native.Nat.{ℕ, zero, suc, _+_, _*_, _-_, _^_, _≤_, _<_}
 use mathlib.Core.Path.{_≡_, refl, sym, ap, _∙_}
 use mathlib.Core.Bool.{Bool, true, false, not}
-use mathlib.Core.List.{List, append-nil}
+use mathlib.Core.List.{List, [], _∷_, append-nil}
 use native.Mathlib.Nat.{add-mul, mul-assoc, one-mul, zero-mul, pow-succ'}
 use native.Mathlib.Omega.{arith}
 use lib.Dec.{ltb}
 use lib.Pow.{pow-pos, pow-mono, shl-shr, high, ones-lt}
 use lib.ListN.{length}
 use borrow.Author.Tests.{lt-ltb, le-ltb, le-leb}
-use Rattle.ordered.specs.Such.{Perhaps, no-such, such, only-if, last-such}
+use Rattle.ordered.specs.Such.{Perhaps, no-such, such, last-such}
+use Rattle.ordered.specs.Dictionary.{Entry, words}
 use Rattle.ordered.specs.Word.{Side, left, right, side}
-use Rattle.ordered.specs.Tree.{Tree, none, row, exists, listing, unnumbered, treeOf}
-use Rattle.ordered.specs.Proper.{Proper}
+use Rattle.ordered.specs.Tree.{Tree, none, row, exists, entries, listing, unnumbered, treeOf}
+use Rattle.ordered.specs.Proper.{Fitting, Proper}
 use Rattle.ordered.specs.Way.{Way, Step, Rule, to, ending, passing, way, rows, joined, following, passing-equal, pushing, down, staying}
-use Rattle.ordered.specs.Reading.{rowsOf, keyAt, right-left-aside, next-by, has as has-over, next as next-over, prev as prev-over, first as first-over, last as last-over}
+use Rattle.ordered.specs.Reading.{Found, rowsOf, end-if, right-left-aside, next-by, has as has-over, next as next-over, prev as prev-over, first as first-over, last as last-over}
 use Rattle.ordered.specs.Change.{ends-at, adding-by, adding, erasing-by, erasing}
 use Rattle.ordered.proofs.Bits.{on-root-path, whole-path, side-of-part}
-use Rattle.ordered.proofs.Parts.{each-of-all}
 use Rattle.ordered.proofs.OneTree.{keys-fit, keys-rise, one-tree}
 use Rattle.pretree.specs.declared.Row.{Row}
+use Rattle.pretree.specs.Add.{entryFor}
 use Rattle.demands.specs.RowsRead.{rowsOver}
-use Rattle.demands.specs.Reached.{chain, parted-chain, forked-chain, SetOf, Reached, ReachedBeyond}
+use Rattle.demands.specs.Reached.{chain, parted-chain, forked-chain, entriesFor, SetOf, Reached, ReachedBeyond}
+use Rattle.demands.proofs.Words.{each-word}
 use Rattle.demands.proofs.Unfolding.{none-proper}
 use Rattle.demands.proofs.Spelled.{Spelled, no-row, a-row}
-use Rattle.demands.proofs.Making.{words}
+use Rattle.demands.proofs.Making.{words-for, append-for}
 
 -- the tree of a chain
 pub ladder : ℕ → ℕ → Tree
-ladder zero p = row 0 (record { key = p }) none none
-ladder (suc m) p = row 0 (record { key = p * 2 ^ suc m }) none (ladder m (p * 2 + 1))
+ladder zero p = row 0 (entryFor p) none none
+ladder (suc m) p = row 0 (entryFor (p * 2 ^ suc m)) none (ladder m (p * 2 + 1))
 
-ladder-listing : (m p : ℕ) → listing (ladder m p) ≡ chain m p
-unfolding ladder listing chain
-ladder-listing zero p = refl
-ladder-listing (suc m) p = rw (ladder-listing m (p * 2 + 1))
+ladder-entries : (m p : ℕ) → entries (ladder m p) ≡ entriesFor (chain m p)
+unfolding ladder entries chain
+ladder-entries zero p = refl
+ladder-entries (suc m) p = rw (ladder-entries m (p * 2 + 1))
 
 ladder-unnumbered : (m p : ℕ) → unnumbered (ladder m p) ≡ ladder m p
 unfolding ladder unnumbered
@@ -75,13 +77,13 @@ top-step m p = omega (arith, one-more m p, pow-pos m)
 record Rightmost (m k : ℕ) (w : Way) : Type 0 where
   steps : length (w .passed) ≡ m
   bits-left : w .bits ≡ 0
-  pub ends : w .end ≡ row 0 (record { key = k }) none none
+  pub ends : w .end ≡ row 0 (entryFor k) none none
   nothing-aside : last-such right-left-aside (w .passed) ≡ no-such
 
 -- a rule that turns right at each row over the word k goes down so
 abbrev Turns-right : ℕ → Rule → Type 0
 Turns-right k f =
-    (m p : ℕ) → top m (p * 2 + 1) ≡ k → f m (record { key = p * 2 ^ suc m }) none (ladder m (p * 2 + 1)) ≡ to right
+    (m p : ℕ) → top m (p * 2 + 1) ≡ k → f m (entryFor (p * 2 ^ suc m)) none (ladder m (p * 2 + 1)) ≡ to right
 
 rightmost : (k : ℕ) (f : Rule) → Turns-right k f → (m p : ℕ) → top m p ≡ k → Rightmost m k (way f m (ladder m p))
 unfolding ladder way last-such
@@ -119,9 +121,9 @@ rightmost-rows : {m k : ℕ} {w : Way} → Rightmost m k w → rows w ≡ m + 1
 unfolding rows
 rightmost-rows r = rw (r .ends) (omega arith)
 
--- the PreTree of the words that a proper tree without row numbers lists is that tree, and they are a set
-module _ (W : ℕ) (t : Tree) (S : List ℕ) (proper : Proper W 0 0 t) (lists : listing t ≡ S) where
-  its-tree : unnumbered t ≡ t → treeOf W S ≡ t
+-- the PreTree of the entries of a proper tree without row numbers is that tree, and their words are those of a set
+module _ (W : ℕ) (t : Tree) (S : List ℕ) (proper : Proper W 0 0 t) (lists : entries t ≡ entriesFor S) where
+  its-tree : unnumbered t ≡ t → treeOf W (entriesFor S) ≡ t
   its-tree bare = ap (treeOf W) (sym lists) ∙ sym (one-tree W 0 0 t proper) ∙ bare
 
   its-set : SetOf W S
@@ -129,16 +131,16 @@ module _ (W : ℕ) (t : Tree) (S : List ℕ) (proper : Proper W 0 0 t) (lists : 
       let set : SetOf W (listing t) =
       record {
         increasing = keys-rise W 0 0 t proper;
-        below = λ x there. on-root-path W x .1 (each-of-all (keys-fit W 0 0 t proper) there .on-path);
+        below = λ x there. on-root-path W x .1 (each-word (Fitting W 0 0) (keys-fit W 0 0 t proper) there .on-path);
       } in
-      rw lists at set
+      rw (ap words lists ∙ words-for S) at set
 
 module _ (W : ℕ) where
   chain-proper : Proper W 0 0 (ladder W 0)
   chain-proper = ladder-proper W 0 0 (omega arith)
 
-  chain-tree : treeOf W (chain W 0) ≡ ladder W 0
-  chain-tree = its-tree W (ladder W 0) (chain W 0) chain-proper (ladder-listing W 0) (ladder-unnumbered W 0)
+  chain-tree : treeOf W (entriesFor (chain W 0)) ≡ ladder W 0
+  chain-tree = its-tree W (ladder W 0) (chain W 0) chain-proper (ladder-entries W 0) (ladder-unnumbered W 0)
 
   down-chain : (f : Rule) → Turns-right (2 ^ W - 1) f → Rightmost W (2 ^ W - 1) (way f W (ladder W 0))
   down-chain f turns = rightmost (2 ^ W - 1) f turns W 0 (rw (zero-mul (2 ^ W)) (omega arith))
@@ -150,10 +152,10 @@ joined-at-end f r = rw (r .bits-left, r .ends, append-nil) (omega arith)
 
 -- so `add` and `del` of the last word read the chain and no more, whether it counts as found or not
 module _ {m k : ℕ} {w : Way} (r : Rightmost m k w) where
-  add-ends : (b : Bool)
-      → let push : Way = way pushing (w .bits) (w .end) in rows (adding-by k w push (joined w push) b .rows-read) ≡ m + 1
-  add-ends true = rightmost-rows r
-  add-ends false = joined-at-end pushing r
+  add-ends : (e : Entry) (b : Bool)
+      → let push : Way = way pushing (w .bits) (w .end) in rows (adding-by e w push (joined w push) b .rows-read) ≡ m + 1
+  add-ends e true = rightmost-rows r
+  add-ends e false = joined-at-end pushing r
 
   del-ends : (b : Bool)
       → let stretch : Way = way (down left) (w .bits) (w .end) in rows (erasing-by w stretch (joined w stretch) b .rows-read) ≡ m + 1
@@ -172,9 +174,9 @@ reached W =
     let w : Way = way (following k) W (ladder W 0) in
     let r : Rightmost W k w = down-chain W (following k) (following-right k) in
     record {
-      a-set = its-set W (ladder W 0) (chain W 0) (chain-proper W) (ladder-listing W 0);
+      a-set = its-set W (ladder W 0) (chain W 0) (chain-proper W) (ladder-entries W 0);
       has-reads = rw (chain-tree W) (omega (arith, rightmost-rows r));
-      add-reads = rw (chain-tree W) (add-ends r (ends-at k w));
+      add-reads = rw (chain-tree W) (add-ends r (entryFor k) (ends-at k w));
       del-reads = rw (chain-tree W) (del-ends r (ends-at k w));
       first-reads = rw (chain-tree W) (omega (arith, root-alone W 0));
       last-reads = rw (chain-tree W) (omega (arith, rightmost-rows (down-chain W (down right) (down-right k))));
@@ -185,7 +187,7 @@ unfolding rows
 rows-passing s w = omega arith
 
 -- "Otherwise take the deepest row where the way went left and a right link exists; its right child is read"
-child-read : (w : Way) (s : Step) {q : Perhaps ℕ} {p : Perhaps Step} → q ≡ no-such → p ≡ such s
+child-read : (w : Way) (s : Step) {q : Perhaps Found} {p : Perhaps Step} → q ≡ no-such → p ≡ such s
     → rowsOf (next-by w q p .ways) ≡ rows w + rows (way staying (s .below) (s .right-part))
 unfolding rowsOf
 child-read w s none-greater deepest = rw (none-greater, deepest) (omega arith)
@@ -193,13 +195,13 @@ child-read w s none-greater deepest = rw (none-greater, deepest) (omega arith)
 -- the tree of a parted chain, with n + 2 bits
 module _ (n : ℕ) where
   abbrev lone : Tree
-  lone = row 0 (record { key = 2 ^ suc n }) none none
+  lone = row 0 (entryFor (2 ^ suc n)) none none
 
   abbrev low-part : Tree
-  low-part = row 0 (record { key = 1 }) none (ladder n 1)
+  low-part = row 0 (entryFor 1) none (ladder n 1)
 
   abbrev parted : Tree
-  parted = row 0 (record { key = 0 }) low-part lone
+  parted = row 0 (entryFor 0) low-part lone
 
   pub less-one : suc (suc n) - 1 ≡ suc n
   less-one = omega arith
@@ -207,9 +209,9 @@ module _ (n : ℕ) where
   less-two : suc (suc n) - 2 ≡ n
   less-two = omega arith
 
-  parted-lists : listing parted ≡ parted-chain (suc (suc n))
-  unfolding listing parted-chain
-  parted-lists = rw (less-two, less-one, ladder-listing n 1)
+  parted-lists : entries parted ≡ entriesFor (parted-chain (suc (suc n)))
+  unfolding entries parted-chain
+  parted-lists = rw (less-two, less-one, ladder-entries n 1, append-for (chain n 1) (2 ^ suc n ∷ []))
 
   parted-unnumbered : unnumbered parted ≡ parted
   unfolding unnumbered
@@ -237,10 +239,10 @@ module _ (n : ℕ) where
       }
 
   abbrev root-step : Side → Step
-  root-step s = record { at = 0; entry = record { key = 0 }; turn = s; left-part = low-part; right-part = lone; below = suc n }
+  root-step s = record { at = 0; entry = entryFor 0; turn = s; left-part = low-part; right-part = lone; below = suc n }
 
   abbrev low-step : Step
-  low-step = record { at = 0; entry = record { key = 1 }; turn = right; left-part = none; right-part = ladder n 1; below = n }
+  low-step = record { at = 0; entry = entryFor 1; turn = right; left-part = none; right-part = ladder n 1; below = n }
 
   -- the right child's word is on the right, all the others but 0 are on the left
   right-side : side (suc n) (2 ^ suc n) ≡ right
@@ -293,7 +295,7 @@ module _ (n : ℕ) where
   next-parted =
       let w : Way = passing (root-step left) (passing low-step chain-way) in
       let r : Rightmost n last-word chain-way = rightmost last-word (passing-equal last-word) (passing-right last-word) n 1 last-left in
-      let none-greater : only-if (ltb last-word) (keyAt (w .end)) ≡ no-such = rw (r .ends, le-ltb last-word last-word (omega arith)) in
+      let none-greater : end-if (ltb last-word) w ≡ no-such = rw (r .ends, le-ltb last-word last-word (omega arith)) in
       let deepest : last-such right-left-aside (w .passed) ≡ such (root-step left) = rw (r .nothing-aside) in
       rw next-way
       (child-read w (root-step left) none-greater deepest
@@ -303,7 +305,7 @@ module _ (n : ℕ) where
   unfolding rowsOver
   parted-reached some =
       let W : ℕ = suc (suc n) in
-      let tree : treeOf W (parted-chain W) ≡ parted = its-tree W parted (parted-chain W) (parted-proper some) parted-lists parted-unnumbered in
+      let tree : treeOf W (entriesFor (parted-chain W)) ≡ parted = its-tree W parted (parted-chain W) (parted-proper some) parted-lists parted-unnumbered in
       record {
         a-set = its-set W parted (parted-chain W) (parted-proper some) parted-lists;
         next-reads = rw (tree, less-one) next-parted;
@@ -312,17 +314,17 @@ module _ (n : ℕ) where
 
   -- the tree of a forked chain
   abbrev row-of-one : Tree
-  row-of-one = row 0 (record { key = 1 }) none none
+  row-of-one = row 0 (entryFor 1) none none
 
   abbrev fork : Tree
-  fork = row 0 (record { key = 0 }) row-of-one (ladder (suc n) 1)
+  fork = row 0 (entryFor 0) row-of-one (ladder (suc n) 1)
 
   abbrev fork-step : Step
-  fork-step = record { at = 0; entry = record { key = 0 }; turn = right; left-part = row-of-one; right-part = ladder (suc n) 1; below = suc n }
+  fork-step = record { at = 0; entry = entryFor 0; turn = right; left-part = row-of-one; right-part = ladder (suc n) 1; below = suc n }
 
-  fork-lists : listing fork ≡ forked-chain (suc (suc n))
-  unfolding listing forked-chain
-  fork-lists = rw (less-one, ladder-listing (suc n) 1)
+  fork-lists : entries fork ≡ entriesFor (forked-chain (suc (suc n)))
+  unfolding entries forked-chain
+  fork-lists = rw (less-one, ladder-entries (suc n) 1)
 
   fork-unnumbered : unnumbered fork ≡ fork
   unfolding unnumbered
@@ -344,7 +346,7 @@ module _ (n : ℕ) where
             ];
       }
 
-  pub fork-tree : treeOf (suc (suc n)) (forked-chain (suc (suc n))) ≡ fork
+  pub fork-tree : treeOf (suc (suc n)) (entriesFor (forked-chain (suc (suc n)))) ≡ fork
   fork-tree = its-tree (suc (suc n)) fork (forked-chain (suc (suc n))) fork-proper fork-lists fork-unnumbered
 
   pub fork-set : SetOf (suc (suc n)) (forked-chain (suc (suc n)))
@@ -368,7 +370,7 @@ module _ (n : ℕ) where
   one-left : side (suc n) 1 ≡ left
   one-left = side-of-part (suc n) 1 0 left (on-root-path (suc n) 1 .0 (omega (arith, pow-pos n)))
 
-  own-hole : (i j : ℕ) (r : Tree) → erasing (suc (suc n)) 1 (row i (record { key = 0 }) (row j (record { key = 1 }) none none) r) .hole ≡ j
+  own-hole : (i j : ℕ) (r : Tree) → erasing (suc (suc n)) 1 (row i (entryFor 0) (row j (entryFor 1) none none) r) .hole ≡ j
   unfolding erasing way following down
   own-hole i j r = rw one-left
 
@@ -376,8 +378,8 @@ module _ (n : ℕ) where
   pub hole-of-one : {rows : ℕ → Row} {c : ℕ} {t : Tree} → Spelled rows c t → unnumbered t ≡ fork → rows (erasing (suc (suc n)) 1 t .hole) .entry .key ≡ 1
   unfolding unnumbered
   hole-of-one (a-row {i} {e} {r} s (a-row {i = j} {e = f} u no-row no-row) v) same =
-      let root : e ≡ record { key = 0 } = cc in
-      let one : f ≡ record { key = 1 } = cc in
+      let root : e ≡ entryFor 0 = cc in
+      let one : f ≡ entryFor 1 = cc in
       rw (root, one, own-hole i j r) (ap (λ x. x .entry .key) (u .as-told) ∙ ap (λ x. x .key) one)
   hole-of-one no-row same = let never : _≡_ {A = ℕ} 0 1 = cc in absurd (omega arith)
   hole-of-one (a-row s no-row v) same = let never : _≡_ {A = ℕ} 0 1 = cc in absurd (omega arith)

@@ -1,7 +1,7 @@
 -- Demand 1: the proofs of specs/Refusals.antt. The tests of each call are gone through once, from the first down ("Order: 9, 1, 2, 3, 4, then
 -- 7 or 8, then 5. For `list`: 2, 4, 6."), and all that the demand says of its number is read off what is seen on the way.
 use Prim.Native.Nat.{ℕ, suc, _*_, _^_, _<_, pred}
-use mathlib.Core.Path.{_≡_, refl, sym, ap, _∙_}
+use mathlib.Core.Path.{_≡_, refl, sym, _∙_}
 use mathlib.Core.Logic.{_↔_, Iff·symm, _⊎_, inl, inr}
 use mathlib.Core.Bool.{Bool, true, false, not, _&&_, _||_, or-false, false≢true}
 use mathlib.Core.List.{List, [], _∷_, _++_}
@@ -9,26 +9,25 @@ use native.Mathlib.Omega.{arith}
 use native.Mathlib.Nat.{add-zero}
 use lib.Dec.{ltb, eqb}
 use lib.ListN.{length, drop, replicate}
-use borrow.Author.Tests.{eqb-true, eqb-false}
-use Rattle.ordered.specs.Such.{if_then_else_, Perhaps, no-such, such, only-if}
+use Rattle.ordered.specs.Such.{if_then_else_, Perhaps, no-such, such}
 use Rattle.ordered.specs.Said.{Whether}
-use Rattle.ordered.specs.Tree.{Tree, none, row, damaged, exists, listing}
-use Rattle.ordered.specs.Way.{Way, rows, broken, isDamaged}
-use Rattle.ordered.specs.Reading.{Reading, rowsOf, brokenIn, keyAt}
+use Rattle.ordered.specs.Tree.{listing}
+use Rattle.ordered.specs.Way.{Way, rows, broken}
+use Rattle.ordered.specs.Reading.{Reading, rowsOf, brokenIn}
 use Rattle.ordered.specs.Reading.{has as reading-has, next as reading-next, prev as reading-prev, gap as reading-gap, first as reading-first, last as reading-last}
-use Rattle.ordered.specs.Change.{Adding, adding, Erasing, erasing, isThere, ends-at, numberAt, entryAt}
+use Rattle.ordered.specs.Change.{Adding, adding, Erasing, erasing}
 use Rattle.pretree.specs.declared.Header.{Header}
 use Rattle.pretree.specs.declared.Answer.{Answer}
-use Rattle.pretree.specs.declared.Answer.the-variants.{Done, Word, Distance, WrongWidth, WrongHeader, WordTooWide, Damage, Full, ShortBuffer, AlreadyThere, NoSuchWord}
+use Rattle.pretree.specs.declared.Answer.the-variants.{Done, Distance, WrongWidth, WrongHeader, WordTooWide, Damage, Full, ShortBuffer, AlreadyThere, NoSuchWord}
 use Rattle.pretree.specs.declared.Reply.{Reply}
 use Rattle.pretree.specs.Answer.{numberOf}
-use Rattle.pretree.specs.Table.{capacity, rowAt}
+use Rattle.pretree.specs.Table.{rowWords, capacity}
 use Rattle.pretree.specs.Reply.{fresh, wrong-width, wrong-header, too-wide, refused, answered}
 use Rattle.pretree.specs.Unfold.{shown}
-use Rattle.pretree.specs.Find.{saying, done, read-reply, hasReply, nextReply, prevReply, gapReply, firstReply, lastReply}
+use Rattle.pretree.specs.Find.{saying, done, word, read-reply, hasReply, nextReply, prevReply, gapReply, firstReply, lastReply}
 use Rattle.pretree.specs.Whole.{newReply, newTable, auditReply, listReply, listBuffer}
 use Rattle.pretree.specs.Sound.{Sound, isSound}
-use Rattle.pretree.specs.Add.{Outcome, grown, addOutcome}
+use Rattle.pretree.specs.Add.{entryFor, Outcome, grown, addOutcome}
 use Rattle.pretree.specs.Del.{secondWay, astray, shrunk, delOutcome}
 use Rattle.pretree.specs.declared.Call.{Call}
 use Rattle.pretree.specs.declared.Call.the-variants.{New, Add, Del, Has, Next, Prev, Gap, First, Last, Audit}
@@ -39,7 +38,7 @@ use Rattle.demands.specs.Damage.{DamageOn, Absent}
 use Rattle.demands.proofs.SoundIs.{sound-is}
 use Rattle.demands.proofs.Damage.{damageTest, damage-tested, absent-tested}
 use Rattle.demands.proofs.Owned.{same-all, new-kept, add-kept, del-kept, list-kept}
-use Rattle.demands.proofs.Whether.{fails, holds, never, both-tested, either-tested, not-tested, less-tested, at-most-tested, equal-tested}
+use Rattle.demands.proofs.Whether.{fails, holds, both-tested, either-tested, less-tested, at-most-tested, equal-tested}
 
 -- none of the conditions holds
 abbrev NoneGiven : List Check → Type 0
@@ -120,7 +119,7 @@ too-wide-tested h k = at-most-tested (2 ^ h .width) k
 
 -- The calls that only read, where the damage on their ways is `Damage-there`. Those that take a word make a check of it between the header's and
 -- the way's.
-module _ (h : Header) (table buffer : List ℕ) (word : ℕ → Answer) (r : Reading) (zero-number : (x : ℕ) → numberOf (word x) ≡ 0)
+module _ {A : Type 0} (h : Header) (table buffer : List ℕ) (say : A → Answer) (r : Reading A) (zero-number : (x : A) → numberOf (say x) ≡ 0)
     {Damage-there : Type 0} (tested : Whether Damage-there (brokenIn (r .ways))) where
   abbrev Seen-reading : List Check → Reply → Type 0
   Seen-reading cs reply = Seen cs h table buffer (r .ways) (record { reply = reply; table = table; buffer = buffer })
@@ -128,25 +127,25 @@ module _ (h : Header) (table buffer : List ℕ) (word : ℕ → Answer) (r : Rea
   abbrev of-way : List Check
   of-way = 4 when Damage-there ∷ []
 
-  found : (q : Perhaps ℕ) → ¬ Refusal (numberOf (saying word q))
+  found : (q : Perhaps A) → ¬ Refusal (numberOf (saying say q))
   unfolding numberOf
   found (such x) number = omega (arith, zero-number x)
   found no-such number = omega arith
 
   way-seen :
-      Seen-reading of-way (if brokenIn (r .ways) then refused h Damage else answered h (saying word (r .answer)) (rowsOf (r .ways)))
+      Seen-reading of-way (if brokenIn (r .ways) then refused h Damage else answered h (saying say (r .answer)) (rowsOf (r .ways)))
   unfolding numberOf
   way-seen =
       judge (Seen-reading of-way) tested (refuse Damage (omega arith))
-      (λ whole. pass whole (answer (saying word (r .answer)) (found (r .answer)) refl))
+      (λ whole. pass whole (answer (saying say (r .answer)) (found (r .answer)) refl))
 
-  read-seen : Seen-reading (header-checks h table ++ of-way) (read-reply h table false word r)
+  read-seen : Seen-reading (header-checks h table ++ of-way) (read-reply h table false say r)
   unfolding numberOf
   read-seen =
       judge (Seen-reading (header-checks h table ++ of-way)) (wrong-header-tested h table) (refuse WrongHeader (omega arith))
       (λ right. pass right way-seen)
 
-  read-word-seen : (k : ℕ) → Seen-reading (header-checks h table ++ 3 when Too-wide h k ∷ of-way) (read-reply h table (too-wide h k) word r)
+  read-word-seen : (k : ℕ) → Seen-reading (header-checks h table ++ 3 when Too-wide h k ∷ of-way) (read-reply h table (too-wide h k) say r)
   unfolding numberOf
   read-word-seen k =
       judge (Seen-reading (header-checks h table ++ 3 when Too-wide h k ∷ of-way)) (wrong-header-tested h table) (refuse WrongHeader (omega arith))
@@ -163,7 +162,7 @@ unfolding after checks waysOf numberOf newReply newTable
 new-seen W h table buffer = by-cases (wrong-width W) (wrong-width-tested W)
   where
     words : ℕ
-    words = 3 * capacity table
+    words = rowWords * capacity table
 
     by-cases : (b : Bool) → Whether (Wrong-width W) b
         → Seen (1 when Wrong-width W ∷ []) h table buffer []
@@ -181,7 +180,7 @@ whether-sound : (h : Header) (table : List ℕ) → Whether (Sound h table) (isS
 whether-sound h table = Iff·symm (sound-is h table .the-test)
 
 -- what `add` and `del` test for damage
-add-damage : (k : ℕ) (h : Header) (table : List ℕ) → Whether (DamageOn (Add k) h table) (broken (adding (h .width) k (shown h table) .rows-read))
+add-damage : (k : ℕ) (h : Header) (table : List ℕ) → Whether (DamageOn (Add k) h table) (broken (adding (h .width) (entryFor k) (shown h table) .rows-read))
 unfolding damageTest waysOf brokenIn
 add-damage k h table = rw or-false at (damage-tested (Add k) h table)
 
@@ -201,7 +200,7 @@ add-seen k h table buffer =
     (λ narrow. pass narrow (by-damage (broken (a .rows-read)) refl))))
   where
     a : Adding
-    a = adding (h .width) k (shown h table)
+    a = adding (h .width) (entryFor k) (shown h table)
 
     of-room : List Check
     of-room = 5 when Full-for k h table ∷ []
@@ -352,11 +351,11 @@ seen (New W) h table buffer = new-seen W h table buffer
 seen (Add k) h table buffer = add-seen k h table buffer
 seen (Del k) h table buffer = del-seen k h table buffer
 seen (Has k) h table buffer = read-word-seen h table buffer done (reading-has (h .width) k (shown h table)) (λ x. refl) (damage-tested (Has k) h table) k
-seen (Next k) h table buffer = read-word-seen h table buffer Word (reading-next (h .width) k (shown h table)) (λ x. refl) (damage-tested (Next k) h table) k
-seen (Prev k) h table buffer = read-word-seen h table buffer Word (reading-prev (h .width) k (shown h table)) (λ x. refl) (damage-tested (Prev k) h table) k
+seen (Next k) h table buffer = read-word-seen h table buffer word (reading-next (h .width) k (shown h table)) (λ x. refl) (damage-tested (Next k) h table) k
+seen (Prev k) h table buffer = read-word-seen h table buffer word (reading-prev (h .width) k (shown h table)) (λ x. refl) (damage-tested (Prev k) h table) k
 seen (Gap k) h table buffer = read-word-seen h table buffer Distance (reading-gap (h .width) k (shown h table)) (λ x. refl) (damage-tested (Gap k) h table) k
-seen First h table buffer = read-seen h table buffer Word (reading-first (h .width) (shown h table)) (λ x. refl) (damage-tested First h table)
-seen Last h table buffer = read-seen h table buffer Word (reading-last (h .width) (shown h table)) (λ x. refl) (damage-tested Last h table)
+seen First h table buffer = read-seen h table buffer word (reading-first (h .width) (shown h table)) (λ x. refl) (damage-tested First h table)
+seen Last h table buffer = read-seen h table buffer word (reading-last (h .width) (shown h table)) (λ x. refl) (damage-tested Last h table)
 seen Audit h table buffer = audit-seen h table buffer
 seen Call.List h table buffer = list-seen h table buffer
 
@@ -382,15 +381,15 @@ module _ (c : Call) (h : Header) (table buffer : List ℕ) where
 -- what a call writes is in its rows, or in the listing
 module _ (h : Header) (table buffer : List ℕ) where
   abbrev Kept : List ℕ → List ℕ → Type 0
-  Kept table′ buffer′ = SameFrom (3 * capacity table) table table′ × SameFrom (h .count) buffer buffer′
+  Kept table′ buffer′ = SameFrom (rowWords * capacity table) table table′ × SameFrom (h .count) buffer buffer′
 
   as-it-was : Kept table buffer
-  as-it-was = (same-all (3 * capacity table), same-all (h .count))
+  as-it-was = (same-all (rowWords * capacity table), same-all (h .count))
 
   kept : (c : Call) → Kept (after c h table buffer .table) (after c h table buffer .buffer)
   unfolding after
   kept (New W) = (new-kept table W, same-all (h .count))
-  kept (Add k) = (add-kept h table k, same-all (h .count))
+  kept (Add k) = (add-kept h table (entryFor k), same-all (h .count))
   kept (Del k) = (del-kept h table k, same-all (h .count))
   kept (Has k) = as-it-was
   kept (Next k) = as-it-was
@@ -399,7 +398,7 @@ module _ (h : Header) (table buffer : List ℕ) where
   kept First = as-it-was
   kept Last = as-it-was
   kept Audit = as-it-was
-  kept Call.List = (same-all (3 * capacity table), list-kept h table buffer)
+  kept Call.List = (same-all (rowWords * capacity table), list-kept h table buffer)
 
 pub refusals : Demand1 after
 refusals c h table buffer =

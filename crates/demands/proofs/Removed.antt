@@ -9,14 +9,13 @@ use native.Mathlib.Omega.{arith}
 use lib.Dec.{leb, eqb}
 use lib.ListN.{length}
 use borrow.Author.Tests.{leb-false, eqb-true, eqb-false, lt-ltb, le-ltb, eq-eqb}
-use Rattle.ordered.specs.Such.{if_then_else_, Perhaps, no-such, such, only-if, last-such, anything}
+use Rattle.ordered.specs.Such.{if_then_else_, Perhaps, no-such, such, last-such, anything, isThere}
 use Rattle.ordered.specs.Word.{left}
-use Rattle.ordered.specs.Dictionary.{Increasing, delete, lookup}
+use Rattle.ordered.specs.Dictionary.{Entry, Increasing, delete, lookup}
 use Rattle.ordered.specs.Said.{_∈_}
-use Rattle.ordered.specs.Tree.{Tree, none, exists, listing, intact}
+use Rattle.ordered.specs.Tree.{Tree, none, exists, entries, listing, intact}
 use Rattle.ordered.specs.Proper.{Fitting, Proper}
 use Rattle.ordered.specs.Way.{Step, Way, way, rows, broken, joined, following, down}
-use Rattle.ordered.specs.Reading.{keyAt, has}
 use Rattle.ordered.specs.Change.{Erasing, erasing, erasing-by, ends-at, above-end, raised, numberAt, entryAt}
 use Rattle.ordered.specs.Grown.{linked as chained, lifted, popped-tree, shrunk as shrunk-tree}
 use Rattle.ordered.proofs.Bits.{on-root-path}
@@ -24,33 +23,33 @@ use Rattle.ordered.proofs.OneTree.{root-fits, proper-intact}
 use Rattle.ordered.proofs.Dictionary.{lookup-whether}
 use Rattle.ordered.proofs.Ways.{linked-again, unbroken}
 use Rattle.ordered.proofs.Moves.{taken-by, lifted-takes, linked-append}
-use Rattle.ordered.proofs.Grown.{shrunk-proper, shrunk-listing}
-use Rattle.ordered.proofs.Answers.{has-answer, erasing-present}
+use Rattle.ordered.proofs.Grown.{shrunk-proper, shrunk-entries}
+use Rattle.ordered.proofs.Answers.{ends-there, erasing-present}
 use Rattle.ordered.proofs.Unbroken.{erasing-unbroken}
 use Rattle.pretree.specs.declared.Header.{Header}
 use Rattle.pretree.specs.declared.Answer.the-variants.{Done, WordTooWide, Damage, NoSuchWord}
 use Rattle.pretree.specs.Answer.{numberOf, keyOf}
-use Rattle.pretree.specs.Table.{capacity, rowAt, link, withLink, withRow, cleared}
+use Rattle.pretree.specs.Table.{rowWords, capacity, rowAt, link, withLink, withRow, cleared}
 use Rattle.pretree.specs.Unfold.{unfolded, shown}
 use Rattle.pretree.specs.Reply.{wrong-header, too-wide, refused, answered}
 use Rattle.pretree.specs.Add.{Outcome, taking, hooking}
 use Rattle.pretree.specs.Del.{secondWay, astray, moving, shrunk, delOutcome}
 use Rattle.pretree.proofs.Writing.{same-capacity}
+use Rattle.pretree.proofs.Rows.{HasRow, linking, has-row, rows-fit, row-written, row-elsewhere, link-written, link-elsewhere, taking-length, hooking-length, row-length}
 use Rattle.pretree.specs.declared.Call.the-variants.{Del}
 use Rattle.pretree.specs.Call.{After, after}
 use Rattle.demands.specs.Numbers.{numbers, often, renamed}
 use Rattle.demands.specs.Expected.{Said, Kept, only, expected, changed, kept-after}
 use Rattle.demands.specs.Demand2.{Holding, Keeps, keptBy, KeepsDictionary}
-use Rattle.demands.proofs.Links.{linking, moved-into, LastMoved, last-row-moved}
-use Rattle.demands.proofs.SoundIs.{held-by-listing}
-use Rattle.demands.proofs.Answered.{undamaged, lists, proper, narrow, nothing-changed}
+use Rattle.demands.proofs.Links.{moved-into, LastMoved, last-row-moved}
+use Rattle.demands.proofs.SoundIs.{held-by-entries}
+use Rattle.demands.proofs.Answered.{undamaged, holds-entries, proper, narrow, nothing-changed}
 use Rattle.demands.proofs.Spelled.{Spelled, no-row, spelled-shows, spelled-frame}
-use Rattle.demands.proofs.Writes.{row-written, row-elsewhere, link-written, link-elsewhere, taking-length, hooking-length, row-length}
 use Rattle.demands.proofs.Rewritten.{Once, in-often, often-in, Same-places, same-places, lifted-places, joined-places, same-numbers, none-part, entries-taken, end-hooked, unchanged-taken, taking-both, chained-often, end-spelled, Hook-told, no-hook, hook-is}
-use Rattle.demands.proofs.Added.{shown-spelled, root-first, rows-once, right-width, has-room, rows-fit, shown-so}
-use Rattle.demands.proofs.Erasures.{Leaf, Leaf-told, keyOf-row, spelled-keys, delete-length, end-proper, leaf-end, ends-row, in-map, one-key, taking-link, hooking-link, leaf-told, end-is, hook-names, popped-first, listed-there, root-in, renamed-intact, renamed-listing, root-stays, shown-root, one-more, no-words}
+use Rattle.demands.proofs.Added.{shown-spelled, root-first, rows-once, right-width, has-room, shown-so}
+use Rattle.demands.proofs.Erasures.{Leaf, Leaf-told, keyOf-row, spelled-keys, delete-length, end-proper, leaf-end, ends-row, in-map, one-key, taking-link, hooking-link, leaf-told, end-is, hook-names, popped-first, listed-there, root-in, renamed-intact, renamed-entries, root-stays, shown-root, one-more, no-entries}
 
-module _ (h : Header) (table S : List ℕ) (H : Holding h table S) (k : ℕ) where
+module _ (h : Header) (table : List ℕ) (S : List Entry) (H : Holding h table S) (k : ℕ) where
   abbrev t : Tree
   t = shown h table
 
@@ -98,7 +97,7 @@ module _ (h : Header) (table S : List ℕ) (H : Holding h table S) (k : ℕ) whe
       (sym (unchanged-taken (h .count) (w .passed) (w .end) table (rw way-whole (shown-spelled H))))
       ∙ sym (taking-both (w .passed) (lifted (stretch .passed) (entryAt (stretch .end))) table)
 
-  fit : 3 * h .count ≤ length table
+  fit : rowWords * h .count ≤ length table
   fit = rows-fit (h .count) table (has-room H)
 
   -- keys up, and the hole unlinked
@@ -135,7 +134,7 @@ module _ (h : Header) (table S : List ℕ) (H : Holding h table S) (k : ℕ) whe
     end-leaf : Leaf (stretch .end)
     end-leaf =
         let p = end-proper (following k) (h .width) t 0 0 (proper H) in
-        leaf-end (w .bits) (w .end) (p .0) (p .1) (p .2) (ends-row k (w .end) present)
+        leaf-end (w .bits) (w .end) (p .0) (p .1) (p .2) (ends-row k (w .bits) (w .end) present)
 
     hole-told : Leaf-told (rowAt table) (h .count) (stretch .end)
     hole-told = leaf-told (stretch .end) end-leaf (end-spelled (rowAt table) (h .count) before (stretch .end) (rw before-whole (shown-spelled H)))
@@ -169,33 +168,33 @@ module _ (h : Header) (table S : List ℕ) (H : Holding h table S) (k : ℕ) whe
     unfolding erasing
     hole-same = rw present
 
-    module _ (small : leb (2 ^ h .width) k ≡ false) (there : lookup k S ≡ true) where
+    module _ (small : leb (2 ^ h .width) k ≡ false) (there : isThere (lookup k S) ≡ true) where
       fitting : Fitting (h .width) 0 0 k
       fitting = root-fits (h .width) k .0 (leb-false (2 ^ h .width) k small)
 
       new-proper : Proper (h .width) 0 0 new-tree
       new-proper = rw tree-after at (shrunk-proper (h .width) k 0 0 t fitting (proper H))
 
-      new-lists : listing new-tree ≡ delete k S
-      new-lists = ap listing (sym tree-after) ∙ shrunk-listing (h .width) k 0 0 t fitting (proper H) ∙ ap (delete k) (lists H)
+      new-entries : entries new-tree ≡ delete k S
+      new-entries = ap entries (sym tree-after) ∙ shrunk-entries (h .width) k 0 0 t fitting (proper H) ∙ ap (delete k) (holds-entries H)
 
       new-number : length (delete k S) ≡ last
-      new-number = omega (arith, delete-length k (H .holds .increasing) there, H .holds .number, one-row)
+      new-number = omega (arith, delete-length k S (H .holds .increasing) there, H .holds .number, one-row)
 
       new-first : numberAt new-tree ≡ 0
       new-first = popped-first places (stretch .end) (ap numberAt before-whole ∙ root-first H)
 
       abbrev Shows : List ℕ → Type 0
-      Shows after = (intact (shown less after) ≡ true) × (listing (shown less after) ≡ delete k S)
+      Shows after = (intact (shown less after) ≡ true) × (entries (shown less after) ≡ delete k S)
 
       -- the last word goes
       none-left : last ≡ 0 → (after : List ℕ) → Shows after
-      unfolding shown intact listing
-      none-left empty after = rw (eq-eqb last 0 empty) (refl, sym (no-words (delete k S) (new-number ∙ empty)))
+      unfolding shown intact entries
+      none-left empty after = rw (eq-eqb last 0 empty) (refl, sym (no-entries (delete k S) (new-number ∙ empty)))
 
       module _ (some : last ≡ 0 → ⊥) where
         new-there : exists new-tree ≡ true
-        new-there = listed-there new-tree (λ e. some (sym new-number ∙ ap length (sym new-lists) ∙ e))
+        new-there = listed-there new-tree (λ e. some (sym new-number ∙ ap length (sym new-entries) ∙ e))
 
         -- the hole is the last row: nothing moves
         stays : hole ≡ last → Shows (final false)
@@ -206,7 +205,7 @@ module _ (h : Header) (table S : List ℕ) (H : Holding h table S) (k : ℕ) whe
             let apart : j ≡ last → ⊥ = λ e. hole-out (Memᴰ·cast (same ∙ sym e) inside) in
             (omega (arith, one-row), row-elsewhere last unlinked j apart cleared)))
             new-there new-first in
-            (ap intact so ∙ proper-intact (h .width) 0 0 new-tree new-proper, ap listing so ∙ new-lists)
+            (ap intact so ∙ proper-intact (h .width) 0 0 new-tree new-proper, ap entries so ∙ new-entries)
 
     -- the second way: the way of the last row's key ends at the last row
     abbrev last-key : ℕ
@@ -223,11 +222,12 @@ module _ (h : Header) (table S : List ℕ) (H : Holding h table S) (k : ℕ) whe
     key-in : last-key ∈ listing t
     key-in = rw keys-listed (in-map (keyOf-row (rowAt table) (h .count)) last-in)
 
-    second-finds : only-if (eqb last-key) (keyAt (second .end)) ≡ such last-key
-    unfolding secondWay has
+    second-finds : ends-at last-key second ≡ true
+    unfolding secondWay
     second-finds =
-        has-answer (h .width) last-key 0 0 t (on-root-path (h .width) last-key .0 (H .holds .below last-key (rw (lists H) at key-in))) (proper H)
-        ∙ ap (λ b. if b then such last-key else no-such) (lookup-whether last-key (listing t) .1 key-in)
+        ends-there (h .width) last-key 0 0 t (on-root-path (h .width) last-key .0 (H .holds .below last-key (rw (holds-entries H) at key-in)))
+        (proper H)
+        ∙ lookup-whether last-key (entries t) .1 key-in
 
     second-whole : chained (second .passed) (second .end) ≡ t
     unfolding secondWay
@@ -238,14 +238,14 @@ module _ (h : Header) (table S : List ℕ) (H : Holding h table S) (k : ℕ) whe
 
     second-told : (rowAt table (numberAt (second .end)) .entry .key ≡ last-key) × (numberAt (second .end) ∈ numbers (second .end))
     second-told =
-        end-is last-key (second .end) (end-spelled (rowAt table) (h .count) (second .passed) (second .end) second-spelled) second-finds
+        end-is last-key (second .bits) (second .end) (end-spelled (rowAt table) (h .count) (second .passed) (second .end) second-spelled) second-finds
 
     second-often : (j : ℕ) → often j (numbers t) ≡ often j (numbers (chained (second .passed) none)) + often j (numbers (second .end))
     second-often j = ap (λ u. often j (numbers u)) (sym second-whole) ∙ chained-often (second .passed) (second .end) j
 
     second-last : numberAt (second .end) ≡ last
     second-last =
-        let rising : Increasing (listing t) = rw (lists H) (H .holds .increasing) in
+        let rising : Increasing (listing t) = rw (holds-entries H) (H .holds .increasing) in
         one-key (keyOf-row (rowAt table) (h .count)) (numbers t) (rw keys-listed at rising)
         (often-in (numberAt (second .end)) (numbers t) (omega (arith, second-often (numberAt (second .end)), in-often (second-told .1))))
         last-in (second-told .0)
@@ -285,11 +285,11 @@ module _ (h : Header) (table S : List ℕ) (H : Holding h table S) (k : ℕ) whe
         parent-kept e = some-left (sym names-last ∙ ap (λ j. link (rowAt table j) (p .turn)) e ∙ hole-told .no-links (p .turn))
 
         -- unlinking the hole leaves that link
-        other-hook : (q : Step) → last-such anything before ≡ such q → (3 * q .at + 2 < length raised-table) × (q .at ≡ parent → q .turn ≡ p .turn → ⊥)
+        other-hook : (q : Step) → last-such anything before ≡ such q → HasRow raised-table (q .at) × (q .at ≡ parent → q .turn ≡ p .turn → ⊥)
         other-hook q is-q =
             let whole : Spelled (rowAt table) (h .count) (chained before (stretch .end)) = rw before-whole (shown-spelled H) in
             let names = hook-names (rw is-q at (hook-is (rowAt table) (h .count) before (stretch .end) whole)) in (
-              omega (arith, fit, raised-long, names .1),
+              has-row raised-table (q .at) (h .count) (names .1) (omega (arith, fit, raised-long)),
               λ same-row same-side.
                   let at-hole : link (rowAt table parent) (p .turn) ≡ hole =
                   ap (λ j. link (rowAt table j) (p .turn)) (sym same-row) ∙ ap (link (rowAt table (q .at))) (sym same-side) ∙ names .2 in
@@ -326,10 +326,10 @@ module _ (h : Header) (table S : List ℕ) (H : Holding h table S) (k : ℕ) whe
               moved =
                   row-elsewhere last relinked hole (λ e. omega arith) cleared
                   ∙ link-elsewhere parent filled hole (λ e. parent-kept (sym e)) (p .turn) hole
-                  ∙ row-written hole unlinked (omega (arith, fit, unlinked-long, hole-told .in-use)) (rowAt unlinked last);
+                  ∙ row-written hole unlinked (has-row unlinked hole (h .count) (hole-told .in-use) (omega (arith, fit, unlinked-long))) (rowAt unlinked last);
               link-set =
                   row-elsewhere last relinked parent parent-other cleared
-                  ∙ link-written parent filled (omega (arith, fit, long, told .1)) (p .turn) hole
+                  ∙ link-written parent filled (has-row filled parent (h .count) (told .1) (omega (arith, fit, long))) (p .turn) hole
                   ∙ ap (linking (p .turn) hole) (row-elsewhere hole unlinked parent parent-kept (rowAt unlinked last));
               others-stay =
                   λ j inside no-last no-parent.
@@ -337,7 +337,7 @@ module _ (h : Header) (table S : List ℕ) (H : Holding h table S) (k : ℕ) whe
                   ∙ row-elsewhere hole unlinked j (λ e. hole-out (Memᴰ·cast (sym e) inside)) (rowAt unlinked last);
             }
 
-        moved-shows : (small : leb (2 ^ h .width) k ≡ false) (there : lookup k S ≡ true) → Shows small there (final true)
+        moved-shows : (small : leb (2 ^ h .width) k ≡ false) (there : isThere (lookup k S) ≡ true) → Shows small there (final true)
         moved-shows small there =
             let first : (numberAt new-tree ≡ 0) × (exists new-tree ≡ true) = (new-first small there, new-there small there some-left) in
             let after : List ℕ = withRow last cleared relinked in
@@ -353,7 +353,7 @@ module _ (h : Header) (table S : List ℕ) (H : Holding h table S) (k : ℕ) whe
             ∙ moves ∙ ap (renamed (moved-into hole last)) before-move in
             rw final-is (
               ap intact so ∙ renamed-intact (moved-into hole last) new-tree ∙ proper-intact (h .width) 0 0 new-tree (new-proper small there),
-              ap listing so ∙ renamed-listing (moved-into hole last) new-tree ∙ new-lists small there,
+              ap entries so ∙ renamed-entries (moved-into hole last) new-tree ∙ new-entries small there,
             )
 
       -- there is such a row, for the last row is not the root
@@ -366,7 +366,7 @@ module _ (h : Header) (table S : List ℕ) (H : Holding h table S) (k : ℕ) whe
           alone (no-hook empty) = sym (ap (λ ss. numberAt (chained ss (second .end))) empty) ∙ ap numberAt second-whole ∙ root-first H
       has-parent (such p) is = (p, is)
 
-    shows-after : (small : leb (2 ^ h .width) k ≡ false) (there : lookup k S ≡ true) → Shows small there (final (not (eqb hole last)))
+    shows-after : (small : leb (2 ^ h .width) k ≡ false) (there : isThere (lookup k S) ≡ true) → Shows small there (final (not (eqb hole last)))
     shows-after small there = by-cases (eqb last 0) refl (eqb hole last) refl
       where
         by-cases : (a : Bool) → eqb last 0 ≡ a → (b : Bool) → eqb hole last ≡ b → Shows small there (final (not b))
@@ -387,7 +387,7 @@ module _ (h : Header) (table S : List ℕ) (H : Holding h table S) (k : ℕ) whe
             ∙ row-length hole (rowAt unlinked last) unlinked ∙ unlinked-long
         by-cases false = unlinked-long
 
-    del-held : (small : leb (2 ^ h .width) k ≡ false) (there : lookup k S ≡ true) → Holding less (final (not (eqb hole last))) (delete k S)
+    del-held : (small : leb (2 ^ h .width) k ≡ false) (there : isThere (lookup k S) ≡ true) → Holding less (final (not (eqb hole last))) (delete k S)
     unfolding wrong-header
     del-held small there =
         let moves : Bool = not (eqb hole last) in
@@ -398,7 +398,7 @@ module _ (h : Header) (table S : List ℕ) (H : Holding h table S) (k : ℕ) whe
                 same-capacity (final moves) table (same-long moves),
                 le-ltb (capacity table) last (omega (arith, has-room H, one-row)),
               );
-          holds = held-by-listing less (final moves) (shows-after small there .0) (shows-after small there .1) (new-number small there);
+          holds = held-by-entries less (final moves) (shows-after small there .0) (shows-after small there .1) (new-number small there);
         }
 
   present-is : e .present ≡ ends-at k w
@@ -409,11 +409,12 @@ module _ (h : Header) (table S : List ℕ) (H : Holding h table S) (k : ℕ) whe
       by-cases true = refl
       by-cases false = refl
 
-  present-so : leb (2 ^ h .width) k ≡ false → e .present ≡ lookup k S
-  present-so small = erasing-present (h .width) k 0 0 t (narrow h k small) (proper H) ∙ ap (lookup k) (lists H)
+  present-so : leb (2 ^ h .width) k ≡ false → e .present ≡ isThere (lookup k S)
+  present-so small =
+      erasing-present (h .width) k 0 0 t (narrow h k small) (proper H) ∙ ap (λ es. isThere (lookup k es)) (holds-entries H)
 
   -- a move takes three rows: the root, the hole and the last row
-  pub three-rows : leb (2 ^ h .width) k ≡ false → lookup k S ≡ true → (e .hole ≡ last → ⊥) → 3 ≤ h .count
+  pub three-rows : leb (2 ^ h .width) k ≡ false → isThere (lookup k S) ≡ true → (e .hole ≡ last → ⊥) → 3 ≤ h .count
   three-rows small there apart =
       let present : ends-at k w ≡ true = sym present-is ∙ present-so small ∙ there in
       let differ : hole ≡ last → ⊥ = λ same. apart (hole-same present ∙ same) in
@@ -469,7 +470,7 @@ module _ (h : Header) (table S : List ℕ) (H : Holding h table S) (k : ℕ) whe
       left-by : Outcome → After
       left-by o = record { reply = o .reply; table = o .table; buffer = buffer }
 
-      by-lookup : (small : leb (2 ^ h .width) k ≡ false) (there : Bool) → lookup k S ≡ there → (wrong : Bool) → (there ≡ true → wrong ≡ false)
+      by-lookup : (small : leb (2 ^ h .width) k ≡ false) (there : Bool) → isThere (lookup k S) ≡ there → (wrong : Bool) → (there ≡ true → wrong ≡ false)
           → Keeps (said false there) (kept (said false there)) table (left-by (outcome false there wrong))
       by-lookup small true is wrong so =
           let present : ends-at k w ≡ true = sym present-is ∙ present-so small ∙ is in
@@ -482,8 +483,8 @@ module _ (h : Header) (table S : List ℕ) (H : Holding h table S) (k : ℕ) whe
           })
       by-lookup small false is wrong so = nothing-changed h table buffer S H (answered h NoSuchWord (rows (e .rows-read))) (only 8) refl refl
 
-      by-width : (wide : Bool) → leb (2 ^ h .width) k ≡ wide → (there : Bool) → (leb (2 ^ h .width) k ≡ false → there ≡ lookup k S)
-          → (wrong : Bool) → (leb (2 ^ h .width) k ≡ false → lookup k S ≡ true → wrong ≡ false)
-          → Keeps (said wide (lookup k S)) (kept (said wide (lookup k S))) table (left-by (outcome wide there wrong))
+      by-width : (wide : Bool) → leb (2 ^ h .width) k ≡ wide → (there : Bool) → (leb (2 ^ h .width) k ≡ false → there ≡ isThere (lookup k S))
+          → (wrong : Bool) → (leb (2 ^ h .width) k ≡ false → isThere (lookup k S) ≡ true → wrong ≡ false)
+          → Keeps (said wide (isThere (lookup k S))) (kept (said wide (isThere (lookup k S)))) table (left-by (outcome wide there wrong))
       by-width true small there so wrong never = nothing-changed h table buffer S H (refused h WordTooWide) (only 3) refl refl
-      by-width false small there so wrong never = rw (so small) (by-lookup small (lookup k S) refl wrong (never small))
+      by-width false small there so wrong never = rw (so small) (by-lookup small (isThere (lookup k S)) refl wrong (never small))

@@ -8,26 +8,25 @@ use mathlib.Core.List.{List, [], _∷_, _++_}
 use mathlib.Core.List.{List·Memᴰ·head, List·Memᴰ·tail, Memᴰ·append-left, Memᴰ·append-right, Memᴰ·cast}
 use native.Mathlib.Omega.{arith}
 use lib.Dec.{eqb}
-use lib.ListN.{length, getD, set}
-use lib.Seq.{set-getD}
+use lib.ListN.{length}
 use borrow.Author.Tests.{eqb-true, eq-eqb}
 use Rattle.ordered.specs.Such.{if_then_else_, Perhaps, no-such, such, first-of, last-such, anything}
 use Rattle.ordered.specs.Word.{Side, left, right, other}
 use Rattle.ordered.specs.Said.{_∈_}
-use Rattle.ordered.specs.Tree.{Tree, none, Entry, part, exists}
+use Rattle.ordered.specs.Dictionary.{Entry}
+use Rattle.ordered.specs.Tree.{Tree, none, part, exists}
 use Rattle.ordered.specs.Way.{Step}
 use Rattle.ordered.specs.Change.{numberAt}
 use Rattle.ordered.specs.Grown.{linking as turned, linked as chained, taking as with-entry, shifted, entry-below, lifted}
 use Rattle.ordered.proofs.Parts.{All, none-all, one-all, If-such, last-such-one, first-of-such}
 use Rattle.ordered.proofs.Moves.{taken-by}
 use Rattle.pretree.specs.declared.Row.{Row}
-use Rattle.pretree.specs.Table.{rowAt, link, withKey}
+use Rattle.pretree.specs.Table.{rowWords, rowAt, toCode, link, withEntry}
 use Rattle.pretree.specs.Add.{taking, hooking}
-use Rattle.pretree.proofs.Writing.{key-length}
+use Rattle.pretree.proofs.Rows.{holding, linking, has-row, entry-written, entry-elsewhere, entry-length, link-written, link-elsewhere, own-entry}
 use Rattle.demands.specs.Numbers.{numbers, often}
-use Rattle.demands.proofs.Links.{often-append, linking}
+use Rattle.demands.proofs.Links.{often-append}
 use Rattle.demands.proofs.Spelled.{row-of, Part, Told, Spelled, a-row, spelled-frame}
-use Rattle.demands.proofs.Writes.{keyed, key-written, key-elsewhere, link-written, link-elsewhere}
 
 -- no row stands in a tree twice
 abbrev pub Once : Tree → Type 0
@@ -103,9 +102,9 @@ module _ {rows : ℕ → Row} {n : ℕ} (i : ℕ) (e : Entry) where
       record { in-use = t .in-use; as-told = t .as-told; named = elim [ left ↦ t .aside-part | right ↦ t .on-part ] } in
       a-row told (t .aside-spelled) (t .on-spelled)
 
-rekeyed : (e e′ : Entry) (s : Side) (l r g g′ : Tree) → numberAt g′ ≡ numberAt g → keyed (e′ .key) (turned-row e s l r g) ≡ turned-row e′ s l r g′
-rekeyed e e′ left l r g g′ same = rw same
-rekeyed e e′ right l r g g′ same = rw same
+reheld : (e e′ : Entry) (s : Side) (l r g g′ : Tree) → numberAt g′ ≡ numberAt g → holding e′ (turned-row e s l r g) ≡ turned-row e′ s l r g′
+reheld e e′ left l r g g′ same = rw same
+reheld e e′ right l r g g′ same = rw same
 
 rehooked : (e : Entry) (s : Side) (l r g g′ : Tree) → linking s (numberAt g′) (turned-row e s l r g) ≡ turned-row e s l r g′
 rehooked e left l r g g′ = refl
@@ -182,11 +181,11 @@ pub taking-elsewhere : (us : List Step) (table : List ℕ) (j : ℕ) → All (λ
 unfolding taking
 taking-elsewhere [] table j none-all = refl
 taking-elsewhere (u ∷ us) table j (one-all h hs) =
-    taking-elsewhere us (withKey (u .at) (u .entry .key) table) j hs ∙ key-elsewhere (u .at) table j (λ e. h (sym e)) (u .entry .key)
+    taking-elsewhere us (withEntry (u .at) (u .entry) table) j hs ∙ entry-elsewhere (u .at) table j (λ e. h (sym e)) (u .entry)
 
 -- keys up or down: the rows of a way take other entries
 pub entries-taken :
-    (n : ℕ) {ss us : List Step} → Same-places ss us → (u : Tree) (table : List ℕ) → 3 * n ≤ length table → Once (chained ss u)
+    (n : ℕ) {ss us : List Step} → Same-places ss us → (u : Tree) (table : List ℕ) → rowWords * n ≤ length table → Once (chained ss u)
     → Spelled (rowAt table) n (chained ss u) → Spelled (rowAt (taking (taken-by us) table)) n (chained us u)
 unfolding chained taking
 entries-taken n no-place u table room once spelled = spelled
@@ -197,25 +196,24 @@ entries-taken n (one-place {s} {ss} {us} e p) u table room once spelled =
     let g : Tree = chained ss u in
     let g′ : Tree = chained us u in
     let o : Turned (rowAt table) n i (s .entry) (s .turn) l r g = opened-turn i (s .entry) (s .turn) l r g spelled in
-    let first : List ℕ = withKey i (e .key) table in
+    let first : List ℕ = withEntry i e table in
     let after : List ℕ = taking (taken-by us) first in
-    let fits : 3 * i + 2 < length table = omega (arith, o .in-use) in
     let on : Spelled (rowAt first) n g =
     spelled-frame g (o .on-spelled) (λ j there below.
-    (below, key-elsewhere i table j (λ same. at-not-on i (s .entry) (s .turn) l r g once (Memᴰ·cast (sym same) there)) (e .key))) in
+    (below, entry-elsewhere i table j (λ same. at-not-on i (s .entry) (s .turn) l r g once (Memᴰ·cast (sym same) there)) e)) in
     let on′ : Spelled (rowAt after) n g′ =
-    entries-taken n p u first (omega (arith, key-length i (e .key) table)) (once-on i (s .entry) (s .turn) l r g once) on in
+    entries-taken n p u first (omega (arith, entry-length i e table)) (once-on i (s .entry) (s .turn) l r g once) on in
     let aside′ : Spelled (rowAt after) n (part (other (s .turn)) l r) =
     spelled-frame (part (other (s .turn)) l r) (o .aside-spelled) (λ j there below. (
       below,
       taking-elsewhere us first j (apart-from p u j (aside-not-on i (s .entry) (s .turn) l r g once j there))
-          ∙ key-elsewhere i table j (λ same. at-not-aside i (s .entry) (s .turn) l r g once (Memᴰ·cast (sym same) there)) (e .key),
+          ∙ entry-elsewhere i table j (λ same. at-not-aside i (s .entry) (s .turn) l r g once (Memᴰ·cast (sym same) there)) e,
     )) in
     closed-turn i e (s .turn) l r g′ (record {
       in-use = o .in-use;
       as-told =
-          taking-elsewhere us first i (apart-from p u i (at-not-on i (s .entry) (s .turn) l r g once)) ∙ key-written i table fits (e .key)
-          ∙ ap (keyed (e .key)) (o .as-told) ∙ rekeyed (s .entry) e (s .turn) l r g g′ (first-place p u .0);
+          taking-elsewhere us first i (apart-from p u i (at-not-on i (s .entry) (s .turn) l r g once)) ∙ entry-written i table (has-row table i n (o .in-use) room) e
+          ∙ ap (holding e) (o .as-told) ∙ reheld (s .entry) e (s .turn) l r g g′ (first-place p u .0);
       aside-part = o .aside-part;
       on-part = part-so (first-place p u) (o .on-part);
       aside-spelled = aside′;
@@ -227,7 +225,7 @@ hooking-elsewhere no-such v table j h = refl
 hooking-elsewhere (such s) v table j h = link-elsewhere (s .at) table j (λ e. h (sym e)) (s .turn) v
 
 -- another part is linked where the way ended: what is written there besides is not among the rows in use before
-module _ (n n′ : ℕ) (u u′ : Tree) (table : List ℕ) (rows′ : ℕ → Row) (room : 3 * n ≤ length table) (more : n ≤ n′)
+module _ (n n′ : ℕ) (u u′ : Tree) (table : List ℕ) (rows′ : ℕ → Row) (room : rowWords * n ≤ length table) (more : n ≤ n′)
     (new-spelled : Spelled rows′ n′ u′) (new-part : 0 < n → Part u′)
   where
     pub end-hooked :
@@ -244,7 +242,7 @@ module _ (n n′ : ℕ) (u u′ : Tree) (table : List ℕ) (rows′ : ℕ → Ro
         closed-turn i e (s .turn) l r u′ (record {
           in-use = omega (arith, o .in-use);
           as-told =
-              so i (o .in-use) ∙ link-written i table (omega (arith, o .in-use)) (s .turn) (numberAt u′)
+              so i (o .in-use) ∙ link-written i table (has-row table i n (o .in-use) room) (s .turn) (numberAt u′)
               ∙ ap (linking (s .turn) (numberAt u′)) (o .as-told) ∙ rehooked e (s .turn) l r u u′;
           aside-part = o .aside-part;
           on-part = new-part (omega (arith, o .in-use));
@@ -289,25 +287,24 @@ module _ (n n′ : ℕ) (u u′ : Tree) (table : List ℕ) (rows′ : ℕ → Ro
 
 -- the rows of a way that take their own entries stay as they are
 pub unchanged-taken : (n : ℕ) (ss : List Step) (u : Tree) (table : List ℕ) → Spelled (rowAt table) n (chained ss u) → taking (taken-by ss) table ≡ table
-unfolding chained taking withKey rowAt
+unfolding chained taking
 unchanged-taken n [] u table spelled = refl
 unchanged-taken n (s ∷ ss) u table spelled =
     let o : Turned (rowAt table) n (s .at) (s .entry) (s .turn) (s .left-part) (s .right-part) (chained ss u) =
     opened-turn (s .at) (s .entry) (s .turn) (s .left-part) (s .right-part) (chained ss u) spelled in
-    let own : getD table (3 * s .at) 0 ≡ s .entry .key =
-    ap (λ r. r .entry .key) (o .as-told) ∙ own-key (s .entry) (s .turn) (s .left-part) (s .right-part) (chained ss u) in
-    ap (λ k. taking (taken-by ss) (set table (3 * s .at) k)) (sym own) ∙ ap (taking (taken-by ss)) (set-getD table (3 * s .at) 0)
-    ∙ unchanged-taken n ss u table (o .on-spelled)
+    let own : toCode (s .entry) ≡ rowAt table (s .at) .entry =
+    sym (ap (λ r. r .entry) (o .as-told) ∙ turned-entry (s .entry) (s .turn) (s .left-part) (s .right-part) (chained ss u)) in
+    ap (taking (taken-by ss)) (own-entry (s .at) (s .entry) table own) ∙ unchanged-taken n ss u table (o .on-spelled)
   where
-    own-key : (e : Entry) (s : Side) (l r g : Tree) → turned-row e s l r g .entry .key ≡ e .key
-    own-key e left l r g = refl
-    own-key e right l r g = refl
+    turned-entry : (e : Entry) (s : Side) (l r g : Tree) → turned-row e s l r g .entry ≡ toCode e
+    turned-entry e left l r g = refl
+    turned-entry e right l r g = refl
 
 -- the entries of one way after another
 pub taking-both : (ss us : List Step) (table : List ℕ) → taking (taken-by (ss ++ us)) table ≡ taking (taken-by us) (taking (taken-by ss) table)
 unfolding taking
 taking-both [] us table = refl
-taking-both (s ∷ ss) us table = taking-both ss us (withKey (s .at) (s .entry .key) table)
+taking-both (s ∷ ss) us table = taking-both ss us (withEntry (s .at) (s .entry) table)
 
 -- what stands in a tree stands at the end of a way or above it
 pub chained-often : (ss : List Step) (u : Tree) (j : ℕ) → often j (numbers (chained ss u)) ≡ often j (numbers (chained ss none)) + often j (numbers u)

@@ -8,8 +8,8 @@ use native.Mathlib.Omega.{arith}
 use lib.Dec.{ltb, leb, eqb}
 use lib.ListN.{length}
 use borrow.Author.Tests.{leb-false}
-use Rattle.ordered.specs.Such.{if_then_else_, Perhaps, no-such, such}
-use Rattle.ordered.specs.Dictionary.{lookup}
+use Rattle.ordered.specs.Such.{if_then_else_, Perhaps, no-such, such, first-such, isThere}
+use Rattle.ordered.specs.Dictionary.{Entry, lookup}
 use Rattle.ordered.specs.Tree.{Tree, intact, unnumbered, treeOf}
 use Rattle.ordered.specs.Way.{Way, rows, broken, way, following}
 use Rattle.ordered.specs.Reading.{Reading, rowsOf, brokenIn, has as has-over, next as next-over, prev as prev-over, first as first-over, last as last-over, gap as gap-over}
@@ -22,14 +22,14 @@ use Rattle.ordered.proofs.Ways.{unbroken}
 use Rattle.ordered.proofs.Answers.{adding-present, erasing-present}
 use Rattle.pretree.specs.declared.Header.{Header}
 use Rattle.pretree.specs.declared.Answer.{Answer}
-use Rattle.pretree.specs.declared.Answer.the-variants.{Done, Word, Distance, WrongWidth, WrongHeader, WordTooWide, Damage, Full, ShortBuffer, AlreadyThere, NoSuchWord}
+use Rattle.pretree.specs.declared.Answer.the-variants.{Done, Distance, WrongWidth, WrongHeader, WordTooWide, Damage, Full, ShortBuffer, AlreadyThere, NoSuchWord}
 use Rattle.pretree.specs.declared.Reply.{Reply}
 use Rattle.pretree.specs.Table.{capacity, rowAt}
 use Rattle.pretree.specs.Unfold.{shown}
 use Rattle.pretree.specs.Answer.{numberOf}
 use Rattle.pretree.specs.Reply.{fresh, wrong-width, wrong-header, too-wide, refused, answered}
-use Rattle.pretree.specs.Find.{saying, done, read-reply, hasReply, nextReply, prevReply, firstReply, lastReply, gapReply}
-use Rattle.pretree.specs.Add.{Outcome, addOutcome}
+use Rattle.pretree.specs.Find.{saying, done, word, read-reply, hasReply, nextReply, prevReply, firstReply, lastReply, gapReply}
+use Rattle.pretree.specs.Add.{entryFor, Outcome, addOutcome}
 use Rattle.pretree.specs.Del.{secondWay, astray, delOutcome}
 use Rattle.pretree.specs.Sound.{isSound}
 use Rattle.pretree.specs.Whole.{newReply, auditReply, listReply}
@@ -47,12 +47,12 @@ way-unnumbered : (m k : ℕ) (t : Tree) → rows (way (following k) m (unnumbere
 unfolding has-over rowsOf
 way-unnumbered m k t = omega (arith, has-unnumbered m k t .same-rows)
 
-not-empty : (k : ℕ) (S : List ℕ) → lookup k S ≡ true → 0 < length S
-unfolding lookup
+not-empty : (k : ℕ) (S : List Entry) → isThere (lookup k S) ≡ true → 0 < length S
+unfolding lookup first-such
 not-empty k [] there = absurd (false≢true there)
 not-empty k (x ∷ xs) there = omega arith
 
-module _ (h : Header) (table S : List ℕ) (right : wrong-header h table ≡ false) (s : HoldsSet h table S) where
+module _ (h : Header) (table : List ℕ) (S : List Entry) (right : wrong-header h table ≡ false) (s : HoldsSet h table S) where
   undamaged : intact (shown h table) ≡ true
   undamaged = tree-intact h table S (s .increasing) (s .below) (s .tree)
 
@@ -61,12 +61,12 @@ module _ (h : Header) (table S : List ℕ) (right : wrong-header h table ≡ fal
   on-set f blind = sym (blind (shown h table)) ∙ ap f (s .tree)
 
   -- a call that reads by f, which meets no damage in a tree without any and does not see row numbers
-  read-reports : (f : Tree → Reading) (wide : Bool) (word : ℕ → Answer) → ((x : ℕ) → isRefusal (numberOf (word x)) ≡ false)
+  read-reports : {A : Type 0} (f : Tree → Reading A) (wide : Bool) (say : A → Answer) → ((x : A) → isRefusal (numberOf (say x)) ≡ false)
       → (intact (shown h table) ≡ true → brokenIn (f (shown h table) .ways) ≡ false) → ((t : Tree) → Alike (f (unnumbered t)) (f t))
-      → Reports wide (rowsOf (f (treeOf (h .width) S) .ways)) 0 (read-reply h table wide word (f (shown h table)))
+      → Reports wide (rowsOf (f (treeOf (h .width) S) .ways)) 0 (read-reply h table wide say (f (shown h table)))
   unfolding numberOf
-  read-reports f true word says whole blind = rw right (record { number = refl; rows-read = refl; moving-count = refl })
-  read-reports f false word says whole blind =
+  read-reports f true say says whole blind = rw right (record { number = refl; rows-read = refl; moving-count = refl })
+  read-reports {A} f false say says whole blind =
       rw (right, whole undamaged)
       (record {
         number = said (f (shown h table) .answer);
@@ -74,7 +74,7 @@ module _ (h : Header) (table S : List ℕ) (right : wrong-header h table ≡ fal
         moving-count = refl;
       })
     where
-      said : (q : Perhaps ℕ) → isRefusal (numberOf (saying word q)) ≡ false
+      said : (q : Perhaps A) → isRefusal (numberOf (saying say q)) ≡ false
       said (such x) = says x
       said no-such = refl
 
@@ -85,15 +85,15 @@ module _ (h : Header) (table S : List ℕ) (right : wrong-header h table ≡ fal
     on-path : k / 2 ^ h .width ≡ 0
     on-path = on-root-path (h .width) k .0 (leb-false (2 ^ h .width) k fits)
 
-    add-finds : adding (h .width) k (shown h table) .present ≡ lookup k S
+    add-finds : adding (h .width) (entryFor k) (shown h table) .present ≡ isThere (lookup k S)
     add-finds =
-        adding-present (h .width) k 0 0 (shown h table) on-path (shown-proper h table undamaged)
-        ∙ ap (lookup k) (one-tree-each .its-listing s)
+        adding-present (h .width) 0 0 (entryFor k) (shown h table) on-path (shown-proper h table undamaged)
+        ∙ ap (λ es. isThere (lookup k es)) (one-tree-each .its-entries s)
 
-    del-finds : erasing (h .width) k (shown h table) .present ≡ lookup k S
+    del-finds : erasing (h .width) k (shown h table) .present ≡ isThere (lookup k S)
     del-finds =
         erasing-present (h .width) k 0 0 (shown h table) on-path (shown-proper h table undamaged)
-        ∙ ap (lookup k) (one-tree-each .its-listing s)
+        ∙ ap (λ es. isThere (lookup k es)) (one-tree-each .its-entries s)
 
   abbrev last-key : ℕ
   last-key = rowAt table (pred (h .count)) .entry .key
@@ -109,33 +109,33 @@ module _ (h : Header) (table S : List ℕ) (right : wrong-header h table ≡ fal
   module _ (k : ℕ) where
     abbrev Add-reports : Type 0
     Add-reports =
-        Reports (leb (2 ^ h .width) k || (not (lookup k S) && eqb (length S) (capacity table)))
-        (rows (adding (h .width) k (treeOf (h .width) S) .rows-read)) 0 (addOutcome h table k .reply)
+        Reports (leb (2 ^ h .width) k || (not (isThere (lookup k S)) && eqb (length S) (capacity table)))
+        (rows (adding (h .width) (entryFor k) (treeOf (h .width) S) .rows-read)) 0 (addOutcome h table (entryFor k) .reply)
 
     add-reports : Add-reports
     unfolding addOutcome too-wide numberOf
     add-reports = by-width (leb (2 ^ h .width) k) refl
       where
-        same : rows (adding (h .width) k (shown h table) .rows-read) ≡ rows (adding (h .width) k (treeOf (h .width) S) .rows-read)
-        same = on-set (λ t. rows (adding (h .width) k t .rows-read)) (λ t. adding-unnumbered (h .width) k t .same-rows)
+        same : rows (adding (h .width) (entryFor k) (shown h table) .rows-read) ≡ rows (adding (h .width) (entryFor k) (treeOf (h .width) S) .rows-read)
+        same = on-set (λ t. rows (adding (h .width) (entryFor k) t .rows-read)) (λ t. adding-unnumbered (h .width) (entryFor k) t .same-rows)
 
-        no-damage : broken (adding (h .width) k (shown h table) .rows-read) ≡ false
-        no-damage = adding-unbroken (h .width) (shown h table) undamaged k
+        no-damage : broken (adding (h .width) (entryFor k) (shown h table) .rows-read) ≡ false
+        no-damage = adding-unbroken (h .width) (shown h table) undamaged (entryFor k)
 
-        by-room : leb (2 ^ h .width) k ≡ false → lookup k S ≡ false → (b : Bool) → eqb (h .count) (capacity table) ≡ b → Add-reports
+        by-room : leb (2 ^ h .width) k ≡ false → isThere (lookup k S) ≡ false → (b : Bool) → eqb (h .count) (capacity table) ≡ b → Add-reports
         by-room fits absent true full =
             rw (right, fits, no-damage, add-finds k fits, absent, s .number, full) (record { number = refl; rows-read = refl; moving-count = refl })
         by-room fits absent false full =
             rw (right, fits, no-damage, add-finds k fits, absent, s .number, full) (record { number = refl; rows-read = same; moving-count = refl })
 
-        by-presence : leb (2 ^ h .width) k ≡ false → (b : Bool) → lookup k S ≡ b → Add-reports
+        by-presence : leb (2 ^ h .width) k ≡ false → (b : Bool) → isThere (lookup k S) ≡ b → Add-reports
         by-presence fits true there =
             rw (right, fits, no-damage, add-finds k fits, there) (record { number = refl; rows-read = same; moving-count = refl })
         by-presence fits false absent = by-room fits absent (eqb (h .count) (capacity table)) refl
 
         by-width : (b : Bool) → leb (2 ^ h .width) k ≡ b → Add-reports
         by-width true wide = rw (right, wide) (record { number = refl; rows-read = refl; moving-count = refl })
-        by-width false fits = by-presence fits (lookup k S) refl
+        by-width false fits = by-presence fits (isThere (lookup k S)) refl
 
     abbrev Del-reports : Type 0
     Del-reports =
@@ -152,7 +152,7 @@ module _ (h : Header) (table S : List ℕ) (right : wrong-header h table ≡ fal
         no-damage : broken (erasing (h .width) k (shown h table) .rows-read) ≡ false
         no-damage = erasing-unbroken (h .width) (shown h table) undamaged k
 
-        by-hole : leb (2 ^ h .width) k ≡ false → lookup k S ≡ true → (b : Bool)
+        by-hole : leb (2 ^ h .width) k ≡ false → isThere (lookup k S) ≡ true → (b : Bool)
             → not (eqb (erasing (h .width) k (shown h table) .hole) (pred (h .count))) ≡ b → Del-reports
         by-hole fits there true goes =
             let some : 0 < h .count = omega (arith, not-empty k S there) in
@@ -161,14 +161,14 @@ module _ (h : Header) (table S : List ℕ) (right : wrong-header h table ≡ fal
         by-hole fits there false stays =
             rw (right, fits, no-damage, del-finds k fits, there, stays) (record { number = refl; rows-read = same; moving-count = refl })
 
-        by-presence : leb (2 ^ h .width) k ≡ false → (b : Bool) → lookup k S ≡ b → Del-reports
+        by-presence : leb (2 ^ h .width) k ≡ false → (b : Bool) → isThere (lookup k S) ≡ b → Del-reports
         by-presence fits true there = by-hole fits there (not (eqb (erasing (h .width) k (shown h table) .hole) (pred (h .count)))) refl
         by-presence fits false absent =
             rw (right, fits, no-damage, del-finds k fits, absent) (record { number = refl; rows-read = same; moving-count = refl })
 
         by-width : (b : Bool) → leb (2 ^ h .width) k ≡ b → Del-reports
         by-width true wide = rw (right, wide) (record { number = refl; rows-read = refl; moving-count = refl })
-        by-width false fits = by-presence fits (lookup k S) refl
+        by-width false fits = by-presence fits (isThere (lookup k S)) refl
 
   audit-reports : Reports false (length S) 0 (auditReply h table)
   unfolding auditReply numberOf
@@ -199,19 +199,19 @@ rows-exact (Has k) h table buffer S right s =
     read-reports h table S right s (has-over (h .width) k) (leb (2 ^ h .width) k) done (λ x. refl)
     (λ whole. has-unbroken (h .width) (shown h table) whole k) (has-unnumbered (h .width) k)
 rows-exact (Next k) h table buffer S right s =
-    read-reports h table S right s (next-over (h .width) k) (leb (2 ^ h .width) k) Word (λ x. refl)
+    read-reports h table S right s (next-over (h .width) k) (leb (2 ^ h .width) k) word (λ x. refl)
     (λ whole. next-unbroken (h .width) (shown h table) whole k) (next-unnumbered (h .width) k)
 rows-exact (Prev k) h table buffer S right s =
-    read-reports h table S right s (prev-over (h .width) k) (leb (2 ^ h .width) k) Word (λ x. refl)
+    read-reports h table S right s (prev-over (h .width) k) (leb (2 ^ h .width) k) word (λ x. refl)
     (λ whole. prev-unbroken (h .width) (shown h table) whole k) (prev-unnumbered (h .width) k)
 rows-exact (Gap k) h table buffer S right s =
     read-reports h table S right s (gap-over (h .width) k) (leb (2 ^ h .width) k) Distance (λ x. refl)
     (λ whole. gap-unbroken (h .width) (shown h table) whole k) (gap-unnumbered (h .width) k)
 rows-exact First h table buffer S right s =
-    read-reports h table S right s (first-over (h .width)) false Word (λ x. refl)
+    read-reports h table S right s (first-over (h .width)) false word (λ x. refl)
     (λ whole. first-unbroken (h .width) (shown h table) whole) (first-unnumbered (h .width))
 rows-exact Last h table buffer S right s =
-    read-reports h table S right s (last-over (h .width)) false Word (λ x. refl)
+    read-reports h table S right s (last-over (h .width)) false word (λ x. refl)
     (λ whole. last-unbroken (h .width) (shown h table) whole) (last-unnumbered (h .width))
 rows-exact Audit h table buffer S right s = audit-reports h table S right s
 rows-exact Call.List h table buffer S right s = list-reports h table S right s buffer
@@ -233,22 +233,22 @@ module _ {n m : ℕ} where
   answer-few : (h : Header) (a : Answer) {x : ℕ} → x ≤ n → AtMost n m (answered h a x)
   answer-few h a few = record { few-read = few; few-moved = omega arith }
 
-read-few : {n : ℕ} (h : Header) (table : List ℕ) (wide : Bool) (word : ℕ → Answer) (r : Reading) → rowsOf (r .ways) ≤ n
-    → AtMost n 0 (read-reply h table wide word r)
-read-few {n} h table wide word r few =
+read-few : {A : Type 0} {n : ℕ} (h : Header) (table : List ℕ) (wide : Bool) (say : A → Answer) (r : Reading A) → rowsOf (r .ways) ≤ n
+    → AtMost n 0 (read-reply h table wide say r)
+read-few {n} h table wide say r few =
     either-way (AtMost n 0) (wrong-header h table) (none-few h WrongHeader)
     (either-way (AtMost n 0) wide (none-few h WordTooWide)
-    (either-way (AtMost n 0) (brokenIn (r .ways)) (none-few h Damage) (answer-few h (saying word (r .answer)) few)))
+    (either-way (AtMost n 0) (brokenIn (r .ways)) (none-few h Damage) (answer-few h (saying say (r .answer)) few)))
 
 pub rows-bounded : RowsBounded after
 unfolding after mostRows mostMoved newReply hasReply nextReply prevReply gapReply firstReply lastReply addOutcome delOutcome auditReply listReply secondWay
 rows-bounded (New w) h table buffer =
     either-way (AtMost 0 0) (wrong-width w) (none-few h WrongWidth) (none-few (fresh w) Done)
 rows-bounded (Add k) h table buffer =
-    let a : Adding = adding (h .width) k (shown h table) in
+    let a : Adding = adding (h .width) (entryFor k) (shown h table) in
     let more : Header = record { width = h .width; count = suc (h .count) } in
     let P : Outcome → Type 0 = λ o. AtMost (h .width + 1) 0 (o .reply) in
-    let few : rows (a .rows-read) ≤ h .width + 1 = adding-rows (h .width) k (shown h table) in
+    let few : rows (a .rows-read) ≤ h .width + 1 = adding-rows (h .width) (entryFor k) (shown h table) in
     either-way P (wrong-header h table) (none-few h WrongHeader)
     (either-way P (too-wide h k) (none-few h WordTooWide)
     (either-way P (broken (a .rows-read)) (none-few h Damage)
@@ -273,15 +273,15 @@ rows-bounded (Del k) h table buffer =
 rows-bounded (Has k) h table buffer =
     read-few h table (too-wide h k) done (has-over (h .width) k (shown h table)) (has-rows (h .width) k (shown h table))
 rows-bounded (Next k) h table buffer =
-    read-few h table (too-wide h k) Word (next-over (h .width) k (shown h table)) (next-rows (h .width) k (shown h table))
+    read-few h table (too-wide h k) word (next-over (h .width) k (shown h table)) (next-rows (h .width) k (shown h table))
 rows-bounded (Prev k) h table buffer =
-    read-few h table (too-wide h k) Word (prev-over (h .width) k (shown h table)) (prev-rows (h .width) k (shown h table))
+    read-few h table (too-wide h k) word (prev-over (h .width) k (shown h table)) (prev-rows (h .width) k (shown h table))
 rows-bounded (Gap k) h table buffer =
     read-few h table (too-wide h k) Distance (gap-over (h .width) k (shown h table)) (gap-rows (h .width) k (shown h table))
 rows-bounded First h table buffer =
-    read-few h table false Word (first-over (h .width) (shown h table)) (omega (arith, first-rows (h .width) (shown h table)))
+    read-few h table false word (first-over (h .width) (shown h table)) (omega (arith, first-rows (h .width) (shown h table)))
 rows-bounded Last h table buffer =
-    read-few h table false Word (last-over (h .width) (shown h table)) (last-rows (h .width) (shown h table))
+    read-few h table false word (last-over (h .width) (shown h table)) (last-rows (h .width) (shown h table))
 rows-bounded Audit h table buffer =
     let P : Reply → Type 0 = AtMost (h .count) 0 in
     either-way P (wrong-header h table) (none-few h WrongHeader)

@@ -9,14 +9,14 @@ use mathlib.Core.List.{List·Memᴰ·head, List·Memᴰ·tail, List·Memᴰ·app
 use native.Mathlib.Omega.{arith}
 use lib.Dec.{ltb, eqb}
 use borrow.Author.Tests.{eqb-true, lt-ltb, le-ltb, eq-eqb, ne-eqb}
-use Rattle.ordered.specs.Such.{if_then_else_, such}
+use Rattle.ordered.specs.Such.{if_then_else_}
 use Rattle.ordered.specs.Word.{Side, left, right, bitOf, side}
 use Rattle.ordered.specs.Said.{_∈_}
+use Rattle.ordered.specs.Dictionary.{Entry}
 use Rattle.ordered.specs.Tree.{Tree, intact}
 use Rattle.ordered.specs.Proper.{Fitting}
 use Rattle.ordered.specs.Way.{way, following}
-use Rattle.ordered.specs.Reading.{keyAt}
-use Rattle.ordered.specs.Change.{numberAt}
+use Rattle.ordered.specs.Change.{ends-at, numberAt}
 use Rattle.ordered.proofs.Bits.{from-part, side-of-part}
 use Rattle.pretree.specs.declared.Header.{Header}
 use Rattle.pretree.specs.declared.Row.{Row}
@@ -31,16 +31,20 @@ use Rattle.demands.proofs.SoundIs.{tree-intact}
 -- row j may stand in t by its key, and the way of its key ends at it
 record Reaches (rows : ℕ → Row) (j m path low : ℕ) (t : Tree) : Type 0 where
   fits : Fitting m path low (key rows j)
-  ends-key : keyAt (way (following (key rows j)) m t .end) ≡ such (key rows j)
+  ends-key : ends-at (key rows j) (way (following (key rows j)) m t) ≡ true
   ends-row : numberAt (way (following (key rows j)) m t .end) ≡ j
 
 module _ (rows : ℕ → Row) (j : ℕ) where
   at-root : (m path low i : ℕ) (parts : Side → Tree) → Fitting m path low (key rows i) → j ≡ i → Reaches rows j m path low (row-with rows i parts)
   unfolding way following
-  at-root zero path low i parts fits same = rw same (record { fits = fits; ends-key = refl; ends-row = refl })
+  at-root zero path low i parts fits same = rw same (record { fits = fits; ends-key = rw (eq-eqb (key rows i) (key rows i) refl); ends-row = refl })
   at-root (suc m) path low i parts fits same =
       rw same
-      (record { fits = fits; ends-key = rw (le-ltb (key rows i) (key rows i) (omega arith)); ends-row = rw (le-ltb (key rows i) (key rows i) (omega arith)) })
+      (record {
+        fits = fits;
+        ends-key = rw (le-ltb (key rows i) (key rows i) (omega arith), eq-eqb (key rows i) (key rows i) refl);
+        ends-row = rw (le-ltb (key rows i) (key rows i) (omega arith));
+      })
 
   below-root :
       (m path low i : ℕ) (parts : Side → Tree) (s : Side) → Fitting (suc m) path low (key rows i)
@@ -96,7 +100,7 @@ stands-there i (x ∷ xs) once = by-cases (eqb i x) refl once (stands-there i xs
     by-cases true e once rest = List·Memᴰ·head (eqb-true i x e)
     by-cases false e once rest = List·Memᴰ·tail (rest (omega arith))
 
-module _ (h : Header) (table S : List ℕ) (s : HoldsSet h table S) (some : 0 < h .count) where
+module _ (h : Header) (table : List ℕ) (S : List Entry) (s : HoldsSet h table S) (some : 0 < h .count) where
   from-root : shown h table ≡ unfolded (rowAt table) (h .count) (h .width) 0 0 0
   unfolding shown
   from-root = rw (ne-eqb (h .count) 0 (λ e. omega arith))
@@ -113,4 +117,4 @@ module _ (h : Header) (table S : List ℕ) (s : HoldsSet h table S) (some : 0 < 
       let r =
       reaches (rowAt table) last (h .count) (h .width) 0 0 0 (rw from-root at (tree-intact h table S (s .increasing) (s .below) (s .tree)))
       (rw from-root at last-there) in
-      rw (from-root, r .ends-key, r .ends-row, eq-eqb last last refl, eq-eqb (key (rowAt table) last) (key (rowAt table) last) refl)
+      rw (from-root, r .ends-key, r .ends-row, eq-eqb last last refl)

@@ -8,18 +8,19 @@ use mathlib.Core.List.{List·Memᴰ·head, List·Memᴰ·tail, Memᴰ·append-le
 use native.Mathlib.Omega.{arith}
 use Rattle.ordered.specs.Word.{Side, left, right, bitOf}
 use Rattle.ordered.specs.Said.{_∈_}
-use Rattle.ordered.specs.Tree.{Tree, none, row, Entry, part, exists, intact}
+use Rattle.ordered.specs.Dictionary.{Entry}
+use Rattle.ordered.specs.Tree.{Tree, none, row, part, exists, intact}
 use Rattle.ordered.specs.Proper.{Proper}
 use Rattle.ordered.specs.Change.{numberAt}
 use Rattle.pretree.specs.declared.Row.{Row}
-use Rattle.pretree.specs.Table.{link}
+use Rattle.pretree.specs.Table.{toCode, entryOf, link}
 use Rattle.pretree.specs.Unfold.{linked, unfolded}
 use Rattle.demands.specs.Numbers.{numbers}
 use Rattle.demands.proofs.Unfolding.{no-link, along-link, linked-row, key, hanging, opened, shown-row}
 
 -- the row of a tree, as a table holds it
 abbrev pub row-of : Entry → Tree → Tree → Row
-row-of e l r = record { entry = record { key = e .key }; left = numberAt l; right = numberAt r }
+row-of e l r = record { entry = toCode e; left = numberAt l; right = numberAt r }
 
 -- "A link of 0 means none": a part that is there has another number
 pub record Part (t : Tree) : Type 0 where
@@ -45,9 +46,9 @@ module _ (rows : ℕ → Row) (n : ℕ) where
     is-part : Part t
     spells : Spelled t
 
-  row-spelled : (i : ℕ) (f : Side → Tree) → i < n → ((s : Side) → Link-spelled (link (rows i) s) (f s)) → Spelled (row i (record { key = key rows i }) (f left) (f right))
+  row-spelled : (i : ℕ) (f : Side → Tree) → i < n → ((s : Side) → Link-spelled (link (rows i) s) (f s)) → Spelled (row i (entryOf (rows i)) (f left) (f right))
   row-spelled i f in-use links =
-      let told : Told i (record { key = key rows i }) (f left) (f right) =
+      let told : Told i (entryOf (rows i)) (f left) (f right) =
       record {
         in-use = in-use;
         as-told = rw (links left .number, links right .number);

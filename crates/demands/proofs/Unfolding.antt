@@ -11,12 +11,12 @@ use borrow.Author.Tests.{ltb-true, leb-true, eqb-true, lt-ltb, le-leb, eq-eqb}
 use Rattle.ordered.specs.Such.{if_then_else_}
 use Rattle.ordered.specs.Word.{Side, left, right, bitOf}
 use Rattle.ordered.specs.Said.{_∈_}
-use Rattle.ordered.specs.Tree.{Tree, none, row, damaged, part, listing, size, intact}
+use Rattle.ordered.specs.Tree.{Tree, none, row, damaged, part, entries, listing, size, intact}
 use Rattle.ordered.specs.Proper.{Fitting, Proper}
-use Rattle.ordered.proofs.Parts.{All, none-all, one-all, all-append}
+use Rattle.ordered.proofs.Parts.{All, none-all, one-all, all-append, words-append}
 use Rattle.ordered.proofs.OneTree.{keys-rise}
 use Rattle.pretree.specs.declared.Row.{Row}
-use Rattle.pretree.specs.Table.{link}
+use Rattle.pretree.specs.Table.{entryOf, link}
 use Rattle.pretree.specs.Unfold.{ends-there, judged, linked, unfolded}
 use Rattle.demands.specs.Numbers.{numbers, often, renamed}
 use Rattle.demands.proofs.Numbers.{at-most, none-twice, numbers-length, renamed-same}
@@ -62,7 +62,7 @@ module _ (rows : ℕ → Row) where
   key i = rows i .entry .key
 
   abbrev pub row-with : ℕ → (Side → Tree) → Tree
-  row-with i part = row i (record { key = key i }) (part left) (part right)
+  row-with i part = row i (entryOf (rows i)) (part left) (part right)
 
   -- what the link of row i on side s shows, where n rows are in use and the row has m bits left
   abbrev pub hanging : ℕ → ℕ → ℕ → ℕ → Side → Tree
@@ -183,10 +183,10 @@ module _ (rows : ℕ → Row) (n : ℕ) where
 
     -- the words that it lists are the keys of its rows
     keys-of-numbers : listing (unfolded rows n m path low i) ≡ map (key rows) (numbers (unfolded rows n m path low i))
-    unfolding numbers listing
+    unfolding numbers entries
     keys-of-numbers =
         every-part (λ t. listing t ≡ map (key rows) (numbers t)) refl
-        (λ i part in-use same. rw (map-append, same left, same right)) m path low i h
+        (λ i part in-use same. rw (words-append, map-append, same left, same right)) m path low i h
 
     -- its keys rise, so no row stands in it twice,
     pub no-row-twice : (j : ℕ) → often j (numbers (unfolded rows n m path low i)) ≤ 1

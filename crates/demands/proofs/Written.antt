@@ -9,22 +9,22 @@ use mathlib.Core.List.{List·Memᴰ·head, List·Memᴰ·tail, Memᴰ·append-le
 use native.Mathlib.Omega.{arith}
 use lib.Dec.{eqb·suc-zero}
 use lib.ListN.{length, length-append}
-use lib.Seq.{getD-append-seam, getD-append-add}
 use Rattle.ordered.specs.Such.{if_then_else_}
 use Rattle.ordered.specs.Word.{Side, left, right, bitOf}
-use Rattle.ordered.specs.Dictionary.{Increasing}
+use Rattle.ordered.specs.Dictionary.{Entry, words, Increasing}
 use Rattle.ordered.specs.Said.{_∈_}
-use Rattle.ordered.specs.Tree.{Tree, none, row, damaged, Entry, part, exists, listing, size, intact, unnumbered, treeOf}
+use Rattle.ordered.specs.Tree.{Tree, none, row, damaged, part, exists, entries, listing, size, intact, unnumbered, treeOf}
 use Rattle.ordered.specs.Proper.{Fitting, Proper}
-use Rattle.ordered.proofs.Parts.{All, none-all, one-all, all-append, each-of-all}
-use Rattle.ordered.proofs.OneTree.{set-proper, set-listing, set-unnumbered, proper-intact, listing-length}
+use Rattle.ordered.proofs.Parts.{All, none-all, all-append, each-of-all, AllWords, words-append}
+use Rattle.ordered.proofs.OneTree.{set-proper, set-entries, set-unnumbered, proper-intact, entries-length}
 use Rattle.pretree.specs.declared.Header.{Header}
 use Rattle.pretree.specs.declared.Row.{Row}
-use Rattle.pretree.specs.Table.{rowAt, link}
+use Rattle.pretree.specs.Table.{rowWords, rowAt, toCode, link}
 use Rattle.pretree.specs.Unfold.{ends-there, linked, unfolded, shown}
+use Rattle.pretree.proofs.Rows.{rowAsWords, each-in-row, row-read}
 use Rattle.demands.specs.SoundIs.{EverySetHasRows}
 use Rattle.demands.proofs.Unfolding.{both, key, hanging, shown-row}
-use Rattle.demands.proofs.SoundIs.{set-fits, tree-intact, tree-listing, held-by-listing}
+use Rattle.demands.proofs.SoundIs.{set-fits, tree-intact, tree-entries, held-by-entries}
 
 -- below a row with number k and left part l, the number of the last row before the part on side s, and that of the part's first row
 abbrev before-part : Side → ℕ → Tree → ℕ
@@ -39,13 +39,13 @@ link-to k t = if exists t then k else 0
 
 -- the row with number k
 abbrev row-of : ℕ → Entry → Tree → Tree → Row
-row-of k e l r = record { entry = record { key = e .key }; left = link-to (place left k l) l; right = link-to (place right k l) r }
+row-of k e l r = record { entry = toCode e; left = link-to (place left k l) l; right = link-to (place right k l) r }
 
 -- the rows of a tree from row k on, as words
 written : ℕ → Tree → List ℕ
 written k none = []
 written k (row i e l r) =
-    e .key ∷ link-to (place left k l) l ∷ link-to (place right k l) r ∷ (written (place left k l) l ++ written (place right k l) r)
+    rowAsWords (row-of k e l r) ++ (written (place left k l) l ++ written (place right k l) r)
 written k damaged = []
 
 -- the rows of a tree stand in a table from row k on
@@ -54,38 +54,27 @@ Standing rows k none = Unit {0}
 Standing rows k (row i e l r) = (rows k ≡ row-of k e l r) × Standing rows (place left k l) l × Standing rows (place right k l) r
 Standing rows k damaged = Unit {0}
 
-written-length : (k : ℕ) (t : Tree) → length (written k t) ≡ 3 * size t
+written-length : (k : ℕ) (t : Tree) → length (written k t) ≡ rowWords * size t
 unfolding written size
 written-length k none = refl
 written-length k (row i e l r) =
-    rw length-append (omega (arith, written-length (place left k l) l, written-length (place right k l) r))
+    rw (length-append (written (place left k l) l) (written (place right k l) r))
+    (omega (arith, written-length (place left k l) l, written-length (place right k l) r))
 written-length k damaged = refl
 
-row-read :
-    (k a b c : ℕ) (before rest : List ℕ) → length before ≡ 3 * k
-    → rowAt (before ++ (a ∷ b ∷ c ∷ rest)) k ≡ record { entry = record { key = a }; left = b; right = c }
-unfolding rowAt
-row-read k a b c before rest at =
-    let words : List ℕ = a ∷ b ∷ c ∷ rest in
-    rw (← at, getD-append-seam, getD-append-add before words 1 0, getD-append-add before words 2 0)
-
 -- they stand where they are written
-written-stands : (k : ℕ) (t : Tree) (before after : List ℕ) → length before ≡ 3 * k → Standing (rowAt (before ++ (written k t ++ after))) k t
+written-stands : (k : ℕ) (t : Tree) (before after : List ℕ) → length before ≡ rowWords * k → Standing (rowAt (before ++ (written k t ++ after))) k t
 unfolding written Standing
 written-stands k none before after at = tt
 written-stands k (row i e l r) before after at =
-    let a : ℕ = e .key in
-    let b : ℕ = link-to (place left k l) l in
-    let c : ℕ = link-to (place right k l) r in
+    let own : List ℕ = rowAsWords (row-of k e l r) in
     let lefts : List ℕ = written (place left k l) l in
-    let rights : List ℕ = written (place right k l) r in
-    let up-to-left : List ℕ = before ++ (a ∷ b ∷ c ∷ []) in
-    let up-to-right : List ℕ = before ++ (a ∷ b ∷ c ∷ lefts) in (
-      row-read k a b c before (lefts ++ rights ++ after) at,
-      rw (append-assoc lefts rights after, ← append-assoc before (a ∷ b ∷ c ∷ []) (lefts ++ (rights ++ after)))
-          (written-stands (place left k l) l up-to-left (rights ++ after) (rw length-append (omega arith))),
-      rw (append-assoc lefts rights after, ← append-assoc before (a ∷ b ∷ c ∷ lefts) (rights ++ after))
-          (written-stands (place right k l) r up-to-right after (rw length-append (omega (arith, written-length (place left k l) l)))),
+    let rights : List ℕ = written (place right k l) r in (
+      row-read k (row-of k e l r) before ((lefts ++ rights) ++ after) at,
+      rw (append-assoc lefts rights after, ← append-assoc before own (lefts ++ (rights ++ after)))
+          (written-stands (place left k l) l (before ++ own) (rights ++ after) (rw length-append (omega arith))),
+      rw (append-assoc lefts rights after, ← append-assoc before (own ++ lefts) (rights ++ after))
+          (written-stands (place right k l) r (before ++ (own ++ lefts)) after (rw length-append (omega (arith, written-length (place left k l) l)))),
     )
 written-stands k damaged before after at = tt
 
@@ -144,12 +133,12 @@ module _ (rows : ℕ → Row) (n : ℕ) where
       (λ exists. standing-shows m (path * 2 + bitOf s) low′ (place s k l) (part s l r) exists (h .parts s) (part-stands k i e l r stands s) (part-room k l r room s))))
   standing-shows (suc m) path low k damaged there h stands room = absurd h
 
-set-size : (W : ℕ) (S : List ℕ) → Increasing S → ((x : ℕ) → x ∈ S → x < 2 ^ W) → size (treeOf W S) ≡ length S
-set-size W S rising below = sym (listing-length (treeOf W S)) ∙ ap length (set-listing W 0 0 S rising (set-fits W S below))
+set-size : (W : ℕ) (S : List Entry) → Increasing (words S) → ((x : ℕ) → x ∈ words S → x < 2 ^ W) → size (treeOf W S) ≡ length S
+set-size W S rising below = sym (entries-length (treeOf W S)) ∙ ap length (set-entries W 0 0 S rising (set-fits W S below))
 
 -- what the rows of a set show from row 0, where there is one
 root-shows :
-    (W : ℕ) (S rest : List ℕ) → Increasing S → ((x : ℕ) → x ∈ S → x < 2 ^ W) → exists (treeOf W S) ≡ true
+    (W : ℕ) (S : List Entry) (rest : List ℕ) → Increasing (words S) → ((x : ℕ) → x ∈ words S → x < 2 ^ W) → exists (treeOf W S) ≡ true
     → unnumbered (unfolded (rowAt (written 0 (treeOf W S) ++ rest)) (length S) W 0 0 0) ≡ treeOf W S
 root-shows W S rest rising below there =
     standing-shows (rowAt (written 0 (treeOf W S) ++ rest)) (length S) W 0 0 0 (treeOf W S) there
@@ -157,7 +146,7 @@ root-shows W S rest rising below there =
     ∙ set-unnumbered W S
 
 table-shows :
-    (W : ℕ) (S rest : List ℕ) → Increasing S → ((x : ℕ) → x ∈ S → x < 2 ^ W)
+    (W : ℕ) (S : List Entry) (rest : List ℕ) → Increasing (words S) → ((x : ℕ) → x ∈ words S → x < 2 ^ W)
     → unnumbered (shown (record { width = W; count = length S }) (written 0 (treeOf W S) ++ rest)) ≡ treeOf W S
 unfolding shown unnumbered treeOf
 table-shows zero [] rest rising below = refl
@@ -177,32 +166,34 @@ module _ (W n : ℕ) where
   link-small k damaged whole room = absurd (false≢true whole)
 
   written-words : (k : ℕ) (t : Tree) → intact t ≡ true → ((x : ℕ) → x ∈ listing t → x < 2 ^ W) → k + size t ≤ n → All Word (written k t)
-  unfolding written listing intact size
+  unfolding written entries intact size
   written-words k none whole small room = none-all
   written-words k (row i e l r) whole small room =
       let b = both (intact l) (intact r) whole in
-      one-all (inl (small (e .key) (List·Memᴰ·head refl)))
-      (one-all (inr (link-small k l (b .0) (omega arith)))
-      (one-all (inr (link-small (k + size l) r (b .1) (omega arith)))
+      let below : (x : ℕ) → x ∈ listing l ++ listing r → x < 2 ^ W =
+      λ x there. small x (List·Memᴰ·tail (rw (words-append (entries l) (entries r)) there)) in
+      all-append
+      (each-in-row Word (row-of k e l r) (inl (small (e .key) (List·Memᴰ·head refl)))
+      (elim [ left ↦ inr (link-small k l (b .0) (omega arith)) | right ↦ inr (link-small (k + size l) r (b .1) (omega arith)) ]))
       (all-append
-      (written-words (place left k l) l (b .0) (λ x there. small x (List·Memᴰ·tail (Memᴰ·append-left (listing r) there))) (omega arith))
-      (written-words (place right k l) r (b .1) (λ x there. small x (List·Memᴰ·tail (Memᴰ·append-right (listing l) there))) (omega arith)))))
+      (written-words (place left k l) l (b .0) (λ x there. below x (Memᴰ·append-left (listing r) there)) (omega arith))
+      (written-words (place right k l) r (b .1) (λ x there. below x (Memᴰ·append-right (listing l) there)) (omega arith)))
   written-words k damaged whole small room = none-all
 
 pub every-set-has-rows : EverySetHasRows
 every-set-has-rows W S rest rising below =
     let h : Header = record { width = W; count = length S } in
     let table : List ℕ = written 0 (treeOf W S) ++ rest in
-    let fits : All (Fitting W 0 0) S = set-fits W S below in
+    let fits : AllWords (Fitting W 0 0) S = set-fits W S below in
     let tree : unnumbered (shown h table) ≡ treeOf W S = table-shows W S rest rising below in
     record {
       rows = written 0 (treeOf W S);
-      as-many = written-length 0 (treeOf W S) ∙ ap (λ n. 3 * n) (set-size W S rising below);
-      words =
+      as-many = written-length 0 (treeOf W S) ∙ ap (λ n. rowWords * n) (set-size W S rising below);
+      each-word =
           λ w there.
           each-of-all
           (written-words W (length S) 0 (treeOf W S) (proper-intact W 0 0 (treeOf W S) (set-proper W 0 0 S rising fits))
-          (λ x. rw (← set-listing W 0 0 S rising fits) at (below x)) (omega (arith, set-size W S rising below)))
+          (λ x. rw (← set-entries W 0 0 S rising fits) at (below x)) (omega (arith, set-size W S rising below)))
           there;
-      held = held-by-listing h table (tree-intact h table S rising below tree) (tree-listing h table S rising below tree) refl;
+      held = held-by-entries h table (tree-intact h table S rising below tree) (tree-entries h table S rising below tree) refl;
     }

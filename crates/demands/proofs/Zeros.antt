@@ -1,6 +1,6 @@
 -- The rows past the count stay zeros, on every table. `add` and `del` write no row that is not in use, but for the new row of `add`
 -- (proofs/Owned.antt), and that one is in use after it; the row that is no longer in use after `del` is cleared.
-use Prim.Native.Nat.{ℕ, suc, pred, _+_, _*_, _<_, _≤_}
+use Prim.Native.Nat.{ℕ, suc, pred, _*_, _<_, _≤_}
 use mathlib.Core.Path.{_≡_, refl, _∙_}
 use mathlib.Core.Logic.{_⊎_, inl, inr}
 use mathlib.Core.Bool.{Bool, true, false}
@@ -9,61 +9,56 @@ use native.Mathlib.Nat.{eq-or-lt-of-le}
 use native.Mathlib.Omega.{arith}
 use lib.Dec.{ltb}
 use lib.ListN.{length, getD, drop, replicate, length-replicate, getD-replicate, List·getD-append}
+use Rattle.ordered.specs.Dictionary.{Entry}
 use Rattle.ordered.specs.Reading.{Reading, brokenIn}
 use Rattle.ordered.specs.Reading.{has, next, prev, gap, first, last}
 use Rattle.ordered.specs.Change.{erasing}
 use Rattle.pretree.specs.declared.Header.{Header}
 use Rattle.pretree.specs.declared.Answer.{Answer}
-use Rattle.pretree.specs.declared.Answer.the-variants.{Word, Distance}
+use Rattle.pretree.specs.declared.Answer.the-variants.{Distance}
 use Rattle.pretree.specs.declared.Reply.{Reply}
-use Rattle.pretree.specs.Table.{capacity, rowAt, withRow, cleared}
+use Rattle.pretree.specs.Table.{rowWords, capacity, rowAt, withRow, cleared}
 use Rattle.pretree.specs.Unfold.{shown}
 use Rattle.pretree.specs.Reply.{wrong-width, wrong-header, too-wide}
-use Rattle.pretree.specs.Find.{done, read-reply, hasReply, nextReply, prevReply, gapReply, firstReply, lastReply}
+use Rattle.pretree.specs.Find.{done, word, read-reply, hasReply, nextReply, prevReply, gapReply, firstReply, lastReply}
 use Rattle.pretree.specs.Whole.{newReply, newTable, auditReply, listReply}
 use Rattle.pretree.specs.Sound.{isSound}
-use Rattle.pretree.specs.Add.{Outcome, addOutcome}
+use Rattle.pretree.specs.Add.{entryFor, Outcome, addOutcome}
 use Rattle.pretree.specs.Del.{shrunk, delOutcome}
-use Rattle.pretree.proofs.Writing.{same-capacity}
+use Rattle.pretree.proofs.Writing.{same-capacity, row-words}
+use Rattle.pretree.proofs.Rows.{row-written, row-length, same-row, zero-row}
 use Rattle.pretree.specs.declared.Call.{Call}
 use Rattle.pretree.specs.declared.Call.the-variants.{New, Add, Del, Has, Next, Prev, Gap, First, Last, Audit}
 use Rattle.pretree.specs.Call.{after}
 use Rattle.demands.specs.Refusals.{SameFrom}
 use Rattle.demands.specs.Zeros.{LaterZeros, ZerosKept}
 use Rattle.demands.proofs.Owned.{by-test, new-kept, added, removed, added-kept, removed-kept, add-outcome, del-outcome}
-use Rattle.demands.proofs.Writes.{row-written, row-length}
 
 -- "it clears every row"
-cleared-word : (table : List ℕ) (w p : ℕ) → wrong-width w ≡ false → p < 3 * capacity table → getD (newTable table w) p 0 ≡ 0
+cleared-word : (table : List ℕ) (w p : ℕ) → wrong-width w ≡ false → p < rowWords * capacity table → getD (newTable table w) p 0 ≡ 0
 unfolding newTable
 cleared-word table w p right room =
-    let n : ℕ = 3 * capacity table in
+    let n : ℕ = rowWords * capacity table in
     rw right
     (List·getD-append (replicate n 0) (drop n table) 0 p (omega (arith, length-replicate {A = ℕ} n 0)) ∙ getD-replicate n p 0 0 room)
 
 new-zeros : (w : ℕ) (h : Header) (table : List ℕ) → wrong-width w ≡ false → LaterZeros (newReply h w .header) (newTable table w)
-unfolding rowAt
 new-zeros w h table right i past room =
     let fits : i < capacity table = omega (arith, same-capacity (newTable table w) table (new-kept table w .same-length)) in
-    rw (
-      cleared-word table w (3 * i) right (omega arith),
-      cleared-word table w (3 * i + 1) right (omega arith),
-      cleared-word table w (3 * i + 2) right (omega arith),
-    )
+    zero-row (newTable table w) i (λ p from to. cleared-word table w p right (omega arith))
 
 -- "Row count−1 is then three zeros."
 clear-row : (i : ℕ) (table : List ℕ) → i < capacity (withRow i cleared table) → rowAt (withRow i cleared table) i ≡ cleared
-unfolding capacity
-clear-row i table room = row-written i table (omega (arith, row-length i cleared table)) cleared
+clear-row i table room =
+    row-written i table (omega (arith, row-words (withRow i cleared table) i room .within, row-length i cleared table)) cleared
 
 module _ (h : Header) (table : List ℕ) (zeros : LaterZeros h table) where
   -- the rows from number n on, where a call wrote none of them
-  still-zeros : (n : ℕ) → h .count ≤ n → (table′ : List ℕ) → SameFrom (3 * n) table table′
+  still-zeros : (n : ℕ) → h .count ≤ n → (table′ : List ℕ) → SameFrom (rowWords * n) table table′
       → (i : ℕ) → n ≤ i → i < capacity table′ → rowAt table′ i ≡ cleared
-  unfolding rowAt
   still-zeros n more table′ same i past room =
-      let before : rowAt table i ≡ cleared = zeros i (omega arith) (omega (arith, same-capacity table′ table (same .same-length))) in
-      rw (same .same-words (3 * i) (omega arith), same .same-words (3 * i + 1) (omega arith), same .same-words (3 * i + 2) (omega arith)) before
+      same-row table table′ i (λ p from to. same .same-words p (omega arith))
+      ∙ zeros i (omega arith) (omega (arith, same-capacity table′ table (same .same-length)))
 
   -- a reply, and an outcome, after which it is so
   abbrev Replied : Reply → Type 0
@@ -75,12 +70,12 @@ module _ (h : Header) (table : List ℕ) (zeros : LaterZeros h table) where
   unchanged : (r : Reply) → r .header ≡ h → Replied r
   unchanged r same = rw same zeros
 
-  module _ (k : ℕ) where
-    zeros-add : Left (addOutcome h table k)
-    zeros-add =
-        add-outcome h table k Left unchanged
-        (λ room. still-zeros (suc (h .count)) (omega arith) (added h table k .table) (added-kept h table k (suc (h .count)) (omega arith)))
+  zeros-add : (new : Entry) → Left (addOutcome h table new)
+  zeros-add new =
+      add-outcome h table new Left unchanged
+      (λ room. still-zeros (suc (h .count)) (omega arith) (added h table new .table) (added-kept h table new (suc (h .count)) (omega arith)))
 
+  module _ (k : ℕ) where
     zeros-del : Left (delOutcome h table k)
     unfolding shrunk
     zeros-del = del-outcome h table k Left unchanged (λ fits present i past room. by-row present i room (eq-or-lt-of-le past))
@@ -92,8 +87,8 @@ module _ (h : Header) (table : List ℕ) (zeros : LaterZeros h table) where
             still-zeros (h .count) (omega arith) (removed h table k .table) (removed-kept h table k (h .count) (omega arith) present) i
             (omega arith) room
 
-  read-zeros : (wide : Bool) (word : ℕ → Answer) (r : Reading) → Replied (read-reply h table wide word r)
-  read-zeros wide word r =
+  read-zeros : {A : Type 0} (wide : Bool) (say : A → Answer) (r : Reading A) → Replied (read-reply h table wide say r)
+  read-zeros wide say r =
       by-test Replied (wrong-header h table) (λ wrong. zeros)
       (λ right. by-test Replied wide (λ too-wide. zeros)
       (λ narrow. by-test Replied (brokenIn (r .ways)) (λ damage. zeros) (λ whole. zeros)))
@@ -105,14 +100,14 @@ module _ (h : Header) (table : List ℕ) (zeros : LaterZeros h table) where
       by-cases : (b : Bool) → wrong-width w ≡ b → LaterZeros (newReply h w .header) (newTable table w)
       by-cases true wrong = rw wrong zeros
       by-cases false right = new-zeros w h table right
-  call-zeros (Add k) buffer = zeros-add k
+  call-zeros (Add k) buffer = zeros-add (entryFor k)
   call-zeros (Del k) buffer = zeros-del k
   call-zeros (Has k) buffer = read-zeros (too-wide h k) done (has (h .width) k (shown h table))
-  call-zeros (Next k) buffer = read-zeros (too-wide h k) Word (next (h .width) k (shown h table))
-  call-zeros (Prev k) buffer = read-zeros (too-wide h k) Word (prev (h .width) k (shown h table))
+  call-zeros (Next k) buffer = read-zeros (too-wide h k) word (next (h .width) k (shown h table))
+  call-zeros (Prev k) buffer = read-zeros (too-wide h k) word (prev (h .width) k (shown h table))
   call-zeros (Gap k) buffer = read-zeros (too-wide h k) Distance (gap (h .width) k (shown h table))
-  call-zeros First buffer = read-zeros false Word (first (h .width) (shown h table))
-  call-zeros Last buffer = read-zeros false Word (last (h .width) (shown h table))
+  call-zeros First buffer = read-zeros false word (first (h .width) (shown h table))
+  call-zeros Last buffer = read-zeros false word (last (h .width) (shown h table))
   call-zeros Audit buffer =
       by-test Replied (wrong-header h table) (λ wrong. zeros) (λ right. by-test Replied (isSound h table) (λ sound. zeros) (λ damage. zeros))
   call-zeros Call.List buffer =

@@ -11,14 +11,16 @@ use lib.Dec.{leb, eqb}
 use Rattle.ordered.specs.Such.{if_then_else_, Perhaps, no-such, such}
 use Rattle.ordered.specs.Word.{Side, left, right, sideOf, bitOf}
 use Rattle.ordered.specs.Said.{_∈_}
+use Rattle.ordered.specs.Dictionary.{Entry}
 use Rattle.ordered.specs.Tree.{Tree, none, row}
 use Rattle.ordered.specs.Way.{Way, way, following}
 use Rattle.ordered.specs.Reading.{readOf, has, next, prev, gap, first, last}
 use Rattle.ordered.specs.Change.{adding, erasing}
 use Rattle.pretree.specs.declared.Header.{Header}
 use Rattle.pretree.specs.declared.Row.{Row}
-use Rattle.pretree.specs.Table.{rowAt, link}
+use Rattle.pretree.specs.Table.{rowAt, entryOf, link}
 use Rattle.pretree.specs.Unfold.{linked}
+use Rattle.pretree.specs.Add.{entryFor}
 use Rattle.pretree.specs.declared.Call.{Call}
 use Rattle.pretree.specs.declared.Call.the-variants.{New, Add, Del, Has, Next, Prev, Gap, First, Last, Audit}
 use Rattle.demands.specs.SoundIs.{HoldsSet}
@@ -26,10 +28,10 @@ use Rattle.demands.specs.SoundIs.{HoldsSet}
 -- The tree that the links name, from row i down with m bits left; nothing is judged. A row that two links name appears twice, so the rows are
 -- numbered by their places: the root is at place 1, and below place p are 2p on the left and 2p + 1 on the right.
 unfoldable pub named-from : (ℕ → Row) → ℕ → ℕ → ℕ → Tree
-named-from rows zero p i = row p (record { key = rows i .entry .key }) none none
+named-from rows zero p i = row p (entryOf (rows i)) none none
 named-from rows (suc m) p i =
     let below : Side → Tree = λ s. linked (named-from rows m (p * 2 + bitOf s)) (link (rows i) s) in
-    row p (record { key = rows i .entry .key }) (below left) (below right)
+    row p (entryOf (rows i)) (below left) (below right)
 
 -- "The root is row 0 whenever the count is not 0"; "with a count of 0 every way is empty"
 unfoldable pub named : Header → List ℕ → Tree
@@ -89,7 +91,7 @@ wayOf k h table = way (following k) (h .width) (named h table)
 
 -- the way ends at a row with the key k, at place p
 abbrev pub EndsAt : ℕ → ℕ → Way → Type 0
-EndsAt k p w = (l : Tree) × (r : Tree) × (w .end ≡ row p (record { key = k }) l r)
+EndsAt k p w = (e : Entry) × (l : Tree) × (r : Tree) × (e .key ≡ k) × (w .end ≡ row p e l r)
 
 -- "found if the way of k ends at k"
 abbrev pub Present : ℕ → Header → List ℕ → Type 0
@@ -120,7 +122,7 @@ SecondDamage h table = DamageRead h table (wayOf (last-key h table) h table ∷ 
 -- any way it needs would." (For `audit` and `list`, 4 means not sound; `new` reads no row.)
 unfoldable pub DamageOn : Call → Header → List ℕ → Type 0
 DamageOn (New w) h table = ⊥
-DamageOn (Add k) h table = DamageRead h table (adding (h .width) k (named h table) .rows-read ∷ [])
+DamageOn (Add k) h table = DamageRead h table (adding (h .width) (entryFor k) (named h table) .rows-read ∷ [])
 DamageOn (Del k) h table =
     DamageRead h table (erasing (h .width) k (named h table) .rows-read ∷ []) ⊎ (Moves k h table × SecondDamage h table)
 DamageOn (Has k) h table = DamageRead h table (has (h .width) k (named h table) .ways)
@@ -139,4 +141,4 @@ pub record OneRow : Type 0 where
 
 -- A table that holds a set has no damage.
 abbrev pub NoneInSets : Type 0
-NoneInSets = (c : Call) (h : Header) (table S : List ℕ) → HoldsSet h table S → ¬ DamageOn c h table
+NoneInSets = (c : Call) (h : Header) (table : List ℕ) (S : List Entry) → HoldsSet h table S → ¬ DamageOn c h table

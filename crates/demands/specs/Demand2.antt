@@ -6,7 +6,7 @@ use mathlib.Core.Path.{_≡_}
 use mathlib.Core.Bool.{false}
 use mathlib.Core.List.{List, [], _∷_, _++_}
 use lib.ListN.{length}
-use Rattle.ordered.specs.Dictionary.{Increasing}
+use Rattle.ordered.specs.Dictionary.{Entry, words, Increasing}
 use Rattle.ordered.specs.Said.{_∈_}
 use Rattle.pretree.specs.declared.Header.{Header}
 use Rattle.pretree.specs.declared.Reply.{Reply}
@@ -20,7 +20,7 @@ use Rattle.demands.specs.SoundIs.{HoldsSet}
 use Rattle.demands.specs.Expected.{Said, Kept, lending, expected, kept-after, kept-after-call, kept-at-end}
 
 -- a header that is not refused (answer 2), and a table that holds the set S; its count is the number of the words of S
-pub record Holding (h : Header) (table S : List ℕ) : Type 0 where
+pub record Holding (h : Header) (table : List ℕ) (S : List Entry) : Type 0 where
   pub right-header : wrong-header h table ≡ false
   pub holds : HoldsSet h table S
 
@@ -37,7 +37,7 @@ pub record Keeps (said : Said) (kept : Kept) (table : List ℕ) (left : After) :
   -- so the capacity stays
   pub same-length : length (left .table) ≡ length table
 
-abbrev pub keptBy : Header → List ℕ → List ℕ → Kept
+abbrev pub keptBy : Header → List Entry → List ℕ → Kept
 keptBy h S buffer = record { width = h .width; set = S; buffer = buffer }
 
 -- a state holds what the dictionary keeps
@@ -53,13 +53,13 @@ abbrev pub empty-kept : ℕ → Kept
 empty-kept W = keptBy (fresh W) [] []
 
 module _ (program : Program) where
-  abbrev pub KeepsDictionary : Call → Header → List ℕ → List ℕ → List ℕ → Type 0
+  abbrev pub KeepsDictionary : Call → Header → List ℕ → List ℕ → List Entry → Type 0
   KeepsDictionary c h table buffer S =
       Keeps (expected c (capacity table) (keptBy h S buffer)) (kept-after c (capacity table) (keptBy h S buffer)) table (program c h table buffer)
 
   -- the demand: for every call, header, table and buffer, and every set that the table holds
   abbrev pub Demand2 : Type 0
-  Demand2 = (c : Call) (h : Header) (table buffer S : List ℕ) → Holding h table S → KeepsDictionary c h table buffer S
+  Demand2 = (c : Call) (h : Header) (table buffer : List ℕ) (S : List Entry) → Holding h table S → KeepsDictionary c h table buffer S
 
   -- Each call of a list meets P, which sees the call, the state before it and what the dictionary keeps before it.
   unfoldable pub Throughout : (Asked → State → Kept → Type 0) → List Asked → ℕ → State → Kept → Type 0
@@ -87,11 +87,12 @@ module _ (program : Program) where
 
 -- The demand speaks of something: every set of words of a width from 1 to 32, as far as a table can have rows, is held by rows of its own,
 -- whatever words follow them
-pub record HeldIn (W : ℕ) (S rest : List ℕ) : Type 0 where
+pub record HeldIn (W : ℕ) (S : List Entry) (rest : List ℕ) : Type 0 where
   pub rows : List ℕ
   pub as-many : length rows ≡ rowWords * length S
   pub held : Holding (record { width = W; count = length S }) (rows ++ rest) S
 
 abbrev pub EverySetHeld : Type 0
 EverySetHeld =
-    (W : ℕ) (S rest : List ℕ) → wrong-width W ≡ false → Increasing S → ((x : ℕ) → x ∈ S → x < 2 ^ W) → length S ≤ 65535 → HeldIn W S rest
+    (W : ℕ) (S : List Entry) (rest : List ℕ) → wrong-width W ≡ false → Increasing (words S) → ((x : ℕ) → x ∈ words S → x < 2 ^ W)
+    → length S ≤ 65535 → HeldIn W S rest

@@ -5,10 +5,11 @@ use Prim.Native.Nat.{ℕ, _^_}
 use mathlib.Core.List.{List, [], _∷_, _++_}
 use lib.Dec.{ltb, leb, eqb}
 use lib.ListN.{length, drop}
-use Rattle.ordered.specs.Such.{if_then_else_, Perhaps, no-such, such}
-use Rattle.ordered.specs.Dictionary.{insert, delete, lookup, min, max, successor, predecessor}
+use Rattle.ordered.specs.Such.{if_then_else_, Perhaps, no-such, such, isThere}
+use Rattle.ordered.specs.Dictionary.{Entry, words, wordOf, insert, delete, lookup, min, max, successor, predecessor}
 use Rattle.ordered.specs.Reading.{nearest}
 use Rattle.pretree.specs.Reply.{wrong-width}
+use Rattle.pretree.specs.Add.{entryFor}
 use Rattle.pretree.specs.declared.Call.{Call}
 use Rattle.pretree.specs.declared.Call.the-variants.{New, Add, Del, Has, Next, Prev, Gap, First, Last, Audit}
 use Rattle.demands.specs.Program.{Asked}
@@ -33,7 +34,7 @@ of-width W k said = if leb (2 ^ W) k then only 3 else said
 -- what the dictionary keeps from call to call, the set and the width of its words; and beside them the buffer that is lent with a call
 pub record Kept : Type 0 where
   pub width : ℕ
-  pub set : List ℕ
+  pub set : List Entry
   pub buffer : List ℕ
 
 -- the same set, with another buffer lent
@@ -44,16 +45,16 @@ lending buffer s = record { width = s .width; set = s .set; buffer = buffer }
 unfoldable pub expected : Call → ℕ → Kept → Said
 expected (New w) capacity s = if wrong-width w then only 1 else only 0
 expected (Add k) capacity s =
-    of-width (s .width) k (if lookup k (s .set) then only 7 else if eqb (length (s .set)) capacity then only 5 else only 0)
-expected (Del k) capacity s = of-width (s .width) k (if lookup k (s .set) then only 0 else only 8)
-expected (Has k) capacity s = of-width (s .width) k (if lookup k (s .set) then only 0 else only 8)
-expected (Next k) capacity s = of-width (s .width) k (word (successor k (s .set)))
-expected (Prev k) capacity s = of-width (s .width) k (word (predecessor k (s .set)))
+    of-width (s .width) k (if isThere (lookup k (s .set)) then only 7 else if eqb (length (s .set)) capacity then only 5 else only 0)
+expected (Del k) capacity s = of-width (s .width) k (if isThere (lookup k (s .set)) then only 0 else only 8)
+expected (Has k) capacity s = of-width (s .width) k (if isThere (lookup k (s .set)) then only 0 else only 8)
+expected (Next k) capacity s = of-width (s .width) k (word (wordOf (successor k (s .set))))
+expected (Prev k) capacity s = of-width (s .width) k (word (wordOf (predecessor k (s .set))))
 expected (Gap k) capacity s =
     of-width (s .width) k
-    (word (if lookup k (s .set) then such 0 else nearest k (predecessor k (s .set)) (successor k (s .set))))
-expected First capacity s = word (min (s .set))
-expected Last capacity s = word (max (s .set))
+    (word (if isThere (lookup k (s .set)) then such 0 else nearest k (wordOf (predecessor k (s .set))) (wordOf (successor k (s .set)))))
+expected First capacity s = word (wordOf (min (s .set)))
+expected Last capacity s = word (wordOf (max (s .set)))
 expected Audit capacity s = only 0
 expected Call.List capacity s = if ltb (length (s .buffer)) (length (s .set)) then only 6 else only 0
 
@@ -61,7 +62,7 @@ expected Call.List capacity s = if ltb (length (s .buffer)) (length (s .set)) th
 -- "`list` writes it to a lent buffer of 32-bit words and leaves the rest of the buffer"
 unfoldable pub changed : Call → Kept → Kept
 changed (New w) s = record { width = w; set = []; buffer = s .buffer }
-changed (Add k) s = record { width = s .width; set = insert k (s .set); buffer = s .buffer }
+changed (Add k) s = record { width = s .width; set = insert (entryFor k) (s .set); buffer = s .buffer }
 changed (Del k) s = record { width = s .width; set = delete k (s .set); buffer = s .buffer }
 changed (Has k) s = s
 changed (Next k) s = s
@@ -70,7 +71,7 @@ changed (Gap k) s = s
 changed First s = s
 changed Last s = s
 changed Audit s = s
-changed Call.List s = record { width = s .width; set = s .set; buffer = s .set ++ drop (length (s .set)) (s .buffer) }
+changed Call.List s = record { width = s .width; set = s .set; buffer = words (s .set) ++ drop (length (s .set)) (s .buffer) }
 
 -- "1 to 6 and 9 are refusals: [..] header, table and buffer untouched. 7 and 8 [..] change nothing."
 unfoldable pub kept-after : Call → ℕ → Kept → Kept

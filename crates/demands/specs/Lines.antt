@@ -7,6 +7,7 @@ use mathlib.Core.List.{List, [], _∷_, _++_}
 use lib.Dec.{eqb}
 use lib.ListN.{length, replicate}
 use Rattle.ordered.specs.Such.{if_then_else_}
+use Rattle.ordered.specs.Dictionary.{Entry, words}
 use Rattle.pretree.specs.declared.Call.{Call}
 use Rattle.pretree.specs.declared.Call.the-variants.{New, Add, Del, Has, Next, Prev, Gap, First, Last, Audit}
 use Rattle.numbers.specs.declared.Number.the-variants.{Nothing}
@@ -63,10 +64,10 @@ fields-on-set c s k =
     }
 
 -- "After a `list` with answer 0 come lines `key`, tab, word."
-abbrev pub listed-on-set : Kind → ℕ → List ℕ → List ℕ
+abbrev pub listed-on-set : Kind → ℕ → List Entry → List ℕ
 listed-on-set makes number set = []
 listed-on-set works number set = []
-listed-on-set lists number set = if eqb number 0 then set else []
+listed-on-set lists number set = if eqb number 0 then words set else []
 
 unfoldable pub fields-to : Line → State → Kept → ReplyFields
 fields-to Unread s k = notRead

@@ -2,12 +2,13 @@
 use Prim.Native.Nat.{ℕ, zero, suc, _+_, _*_, _-_, _^_, _≤_, _<_}
 use mathlib.Core.Path.{_≡_}
 use mathlib.Core.List.{List, [], _∷_, _++_}
-use Rattle.ordered.specs.Dictionary.{Increasing}
+use Rattle.ordered.specs.Dictionary.{Entry, Increasing}
 use Rattle.ordered.specs.Said.{_∈_}
 use lib.ListN.{length}
 use Rattle.pretree.specs.declared.Header.{Header}
 use Rattle.pretree.specs.declared.Reply.{Reply}
 use Rattle.pretree.specs.Table.{capacity}
+use Rattle.pretree.specs.Add.{entryFor}
 use Rattle.pretree.specs.declared.Call.{Call}
 use Rattle.pretree.specs.declared.Call.the-variants.{New, Add, Del, Has, Next, Prev, First, Last}
 use Rattle.demands.specs.Program.{Program, Asked, State, outcome, end-state}
@@ -29,7 +30,12 @@ parted-chain W = 0 ∷ 1 ∷ (chain (W - 2) 1 ++ (2 ^ (W - 1) ∷ []))
 unfoldable pub forked-chain : ℕ → List ℕ
 forked-chain W = 0 ∷ 1 ∷ chain (W - 1) 1
 
--- a set of words of the width W
+-- the set that an `add` of each word makes
+abbrev pub entriesFor : List ℕ → List Entry
+entriesFor [] = []
+entriesFor (x ∷ xs) = entryFor x ∷ entriesFor xs
+
+-- the words of a set of the width W
 pub record SetOf (W : ℕ) (S : List ℕ) : Type 0 where
   pub increasing : Increasing S
   pub below : (x : ℕ) → x ∈ S → x < 2 ^ W
@@ -37,17 +43,17 @@ pub record SetOf (W : ℕ) (S : List ℕ) : Type 0 where
 -- An `add` reads W+1 rows only where its word is there already: a row at depth W on the way of a word is the row of that word.
 pub record Reached (W : ℕ) : Type 0 where
   pub a-set : SetOf W (chain W 0)
-  pub has-reads : rowsOver (Has (2 ^ W - 1)) W (chain W 0) ≡ W + 1
-  pub add-reads : rowsOver (Add (2 ^ W - 1)) W (chain W 0) ≡ W + 1
-  pub del-reads : rowsOver (Del (2 ^ W - 1)) W (chain W 0) ≡ W + 1
-  pub first-reads : rowsOver First W (chain W 0) ≡ 1
-  pub last-reads : rowsOver Last W (chain W 0) ≡ W + 1
+  pub has-reads : rowsOver (Has (2 ^ W - 1)) W (entriesFor (chain W 0)) ≡ W + 1
+  pub add-reads : rowsOver (Add (2 ^ W - 1)) W (entriesFor (chain W 0)) ≡ W + 1
+  pub del-reads : rowsOver (Del (2 ^ W - 1)) W (entriesFor (chain W 0)) ≡ W + 1
+  pub first-reads : rowsOver First W (entriesFor (chain W 0)) ≡ 1
+  pub last-reads : rowsOver Last W (entriesFor (chain W 0)) ≡ W + 1
 
 -- "*B `prev` 4: 3, 5 rows. *B `next` 3: 4, 5 rows."
 pub record ReachedBeyond (W : ℕ) : Type 0 where
   pub a-set : SetOf W (parted-chain W)
-  pub next-reads : rowsOver (Next (2 ^ (W - 1) - 1)) W (parted-chain W) ≡ W + 2
-  pub prev-reads : rowsOver (Prev (2 ^ (W - 1))) W (parted-chain W) ≡ W + 2
+  pub next-reads : rowsOver (Next (2 ^ (W - 1) - 1)) W (entriesFor (parted-chain W)) ≡ W + 2
+  pub prev-reads : rowsOver (Prev (2 ^ (W - 1))) W (entriesFor (parted-chain W)) ≡ W + 2
 
 -- `new` W, and then an `add` of each word of S, with no buffer
 abbrev pub asked : Call → Asked
@@ -72,7 +78,7 @@ module _ (program : Program) where
   -- the call c reports n by the count.
   pub record ReadAfterAdds (count : Reply → ℕ) (W : ℕ) (S : List ℕ) (c : Call) (n : ℕ) (s : State) : Type 0 where
     pub width : end-state program (making W S) s .header .width ≡ W
-    pub held : Holding (end-state program (making W S) s .header) (end-state program (making W S) s .table) S
+    pub held : Holding (end-state program (making W S) s .header) (end-state program (making W S) s .table) (entriesFor S)
     pub reads : (buffer : List ℕ) → count (outcome program (record { call = c; buffer = buffer }) (end-state program (making W S) s) .reply) ≡ n
 
   abbrev pub ReadOnce : (Reply → ℕ) → ℕ → List ℕ → Call → ℕ → Type 0
@@ -93,7 +99,7 @@ module _ (program : Program) where
   -- n bounds a count that a kind of call reports at the width W, in tables that hold a set
   abbrev pub Bounds : (Reply → ℕ) → (ℕ → Call) → ℕ → ℕ → Type 0
   Bounds count call W n =
-      (k : ℕ) (h : Header) (table buffer S : List ℕ) → Holding h table S → h .width ≡ W → count (program (call k) h table buffer .reply) ≤ n
+      (k : ℕ) (h : Header) (table buffer : List ℕ) (S : List Entry) → Holding h table S → h .width ≡ W → count (program (call k) h table buffer .reply) ≤ n
 
   -- m is such a bound, and no number below m is one
   pub record LeastBound (count : Reply → ℕ) (call : ℕ → Call) (W m : ℕ) : Type 0 where

@@ -14,6 +14,7 @@ use Rattle.pretree.specs.Answer.{numberOf}
 use Rattle.pretree.specs.Table.{rowWords, capacity}
 use Rattle.pretree.specs.Unfold.{shown}
 use Rattle.pretree.specs.Sound.{Sound}
+use Rattle.pretree.specs.Add.{entryFor}
 use Rattle.pretree.specs.declared.Call.{Call}
 use Rattle.pretree.specs.declared.Call.the-variants.{New, Add, Del, Has, Next, Prev, Gap, First, Last, Audit}
 use Rattle.pretree.specs.Call.{After}
@@ -23,7 +24,7 @@ use Rattle.demands.specs.Damage.{DamageOn, Absent}
 -- the ways of a call, whose rows are its count; the second way of `del` has a count of its own, and the other calls go no way
 unfoldable pub waysOf : Call → Header → List ℕ → List Way
 waysOf (New W) h table = []
-waysOf (Add k) h table = adding (h .width) k (shown h table) .rows-read ∷ []
+waysOf (Add k) h table = adding (h .width) (entryFor k) (shown h table) .rows-read ∷ []
 waysOf (Del k) h table = erasing (h .width) k (shown h table) .rows-read ∷ []
 waysOf (Has k) h table = reading-has (h .width) k (shown h table) .ways
 waysOf (Next k) h table = reading-next (h .width) k (shown h table) .ways

@@ -6,8 +6,8 @@ use mathlib.Core.Bool.{Bool, false, not, _&&_, _||_}
 use mathlib.Core.List.{List}
 use lib.Dec.{ltb, leb, eqb}
 use lib.ListN.{length}
-use Rattle.ordered.specs.Such.{if_then_else_}
-use Rattle.ordered.specs.Dictionary.{lookup}
+use Rattle.ordered.specs.Such.{if_then_else_, isThere}
+use Rattle.ordered.specs.Dictionary.{Entry, lookup}
 use Rattle.ordered.specs.Tree.{treeOf}
 use Rattle.ordered.specs.Way.{rows, way, following}
 use Rattle.ordered.specs.Reading.{rowsOf, has as has-over, next as next-over, prev as prev-over, first as first-over, last as last-over, gap as gap-over}
@@ -16,6 +16,7 @@ use Rattle.pretree.specs.declared.Header.{Header}
 use Rattle.pretree.specs.declared.Reply.{Reply}
 use Rattle.pretree.specs.Table.{capacity, rowAt}
 use Rattle.pretree.specs.Unfold.{shown}
+use Rattle.pretree.specs.Add.{entryFor}
 use Rattle.pretree.specs.Answer.{numberOf}
 use Rattle.pretree.specs.Reply.{wrong-width, wrong-header}
 use Rattle.pretree.specs.declared.Call.{Call}
@@ -24,9 +25,9 @@ use Rattle.demands.specs.Program.{Program}
 use Rattle.demands.specs.SoundIs.{HoldsSet}
 
 -- the rows of the ways of a call over the PreTree of the words of S. "`new` reads no row"; `audit` and `list`: "Both count `count` rows."
-unfoldable pub rowsOver : Call → ℕ → List ℕ → ℕ
+unfoldable pub rowsOver : Call → ℕ → List Entry → ℕ
 rowsOver (New w) W S = 0
-rowsOver (Add k) W S = rows (adding W k (treeOf W S) .rows-read)
+rowsOver (Add k) W S = rows (adding W (entryFor k) (treeOf W S) .rows-read)
 rowsOver (Del k) W S = rows (erasing W k (treeOf W S) .rows-read)
 rowsOver (Has k) W S = rowsOf (has-over W k (treeOf W S) .ways)
 rowsOver (Next k) W S = rowsOf (next-over W k (treeOf W S) .ways)
@@ -38,11 +39,11 @@ rowsOver Audit W S = length S
 rowsOver Call.List W S = length S
 
 -- whether the last row moves at a `del` of k: the word is there, and "the hole is not row count−1"
-unfoldable pub moves : Header → List ℕ → List ℕ → ℕ → Bool
-moves h table S k = lookup k S && not (eqb (erasing (h .width) k (shown h table) .hole) (pred (h .count)))
+unfoldable pub moves : Header → List ℕ → List Entry → ℕ → Bool
+moves h table S k = isThere (lookup k S) && not (eqb (erasing (h .width) k (shown h table) .hole) (pred (h .count)))
 
 -- "The rows of the second way", that of the last row's key, "are the moving count; it is 0 where nothing moves, and in every other call."
-unfoldable pub movedOver : Call → Header → List ℕ → List ℕ → ℕ
+unfoldable pub movedOver : Call → Header → List ℕ → List Entry → ℕ
 movedOver (New w) h table S = 0
 movedOver (Add k) h table S = 0
 movedOver (Del k) h table S =
@@ -59,9 +60,9 @@ movedOver Audit h table S = 0
 movedOver Call.List h table S = 0
 
 -- what a call is refused for on a table that holds S, with room for so many rows, and a buffer of so many words: 1, 3, 5 and 6 alone
-unfoldable pub refusedOver : Call → ℕ → List ℕ → ℕ → ℕ → Bool
+unfoldable pub refusedOver : Call → ℕ → List Entry → ℕ → ℕ → Bool
 refusedOver (New w) W S room space = wrong-width w
-refusedOver (Add k) W S room space = leb (2 ^ W) k || (not (lookup k S) && eqb (length S) room)
+refusedOver (Add k) W S room space = leb (2 ^ W) k || (not (isThere (lookup k S)) && eqb (length S) room)
 refusedOver (Del k) W S room space = leb (2 ^ W) k
 refusedOver (Has k) W S room space = leb (2 ^ W) k
 refusedOver (Next k) W S room space = leb (2 ^ W) k
@@ -86,14 +87,14 @@ module _ (program : Program) where
   -- on every table that holds a set, the counts are those of the ways over the set's PreTree
   abbrev pub RowsExact : Type 0
   RowsExact =
-      (c : Call) (h : Header) (table buffer S : List ℕ) → wrong-header h table ≡ false → HoldsSet h table S
+      (c : Call) (h : Header) (table buffer : List ℕ) (S : List Entry) → wrong-header h table ≡ false → HoldsSet h table S
       → Reports (refusedOver c (h .width) S (capacity table) (length buffer)) (rowsOver c (h .width) S) (movedOver c h table S)
       (program c h table buffer .reply)
 
   -- two tables of equal length that hold the same words at the same width, whatever their row numbers, give the same rows read
   abbrev pub RowsAlike : Type 0
   RowsAlike =
-      (c : Call) (h h′ : Header) (table table′ buffer buffer′ S : List ℕ)
+      (c : Call) (h h′ : Header) (table table′ buffer buffer′ : List ℕ) (S : List Entry)
       → wrong-header h table ≡ false → wrong-header h′ table′ ≡ false
       → HoldsSet h table S → HoldsSet h′ table′ S → h .width ≡ h′ .width → length table ≡ length table′ → length buffer ≡ length buffer′
       → program c h table buffer .reply .rows ≡ program c h′ table′ buffer′ .reply .rows

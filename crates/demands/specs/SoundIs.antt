@@ -8,9 +8,9 @@ use mathlib.Core.List.{List, _++_}
 use lib.Dec.{ltb}
 use lib.ListN.{length}
 use Rattle.ordered.specs.Such.{if_then_else_}
-use Rattle.ordered.specs.Dictionary.{Increasing}
+use Rattle.ordered.specs.Dictionary.{Entry, words, Increasing}
 use Rattle.ordered.specs.Said.{_∈_}
-use Rattle.ordered.specs.Tree.{listing, unnumbered, treeOf}
+use Rattle.ordered.specs.Tree.{entries, unnumbered, treeOf}
 use Rattle.pretree.specs.Table.{rowWords}
 use Rattle.pretree.specs.declared.Header.{Header}
 use Rattle.pretree.specs.Unfold.{shown}
@@ -19,9 +19,9 @@ use Rattle.demands.specs.Numbers.{numbers, often}
 
 -- The table holds the set S: it shows the PreTree of S ("The sound tree of a set is: its least word at the root, the rest parted by the next
 -- bit, and so on down."), in "the rows 0 to count−1, each once".
-pub record HoldsSet (h : Header) (table S : List ℕ) : Type 0 where
-  pub increasing : Increasing S
-  pub below : (x : ℕ) → x ∈ S → x < 2 ^ h .width
+pub record HoldsSet (h : Header) (table : List ℕ) (S : List Entry) : Type 0 where
+  pub increasing : Increasing (words S)
+  pub below : (x : ℕ) → x ∈ words S → x < 2 ^ h .width
   pub number : length S ≡ h .count
   pub tree : unnumbered (shown h table) ≡ treeOf (h .width) S
   pub each-row-once : (i : ℕ) → often i (numbers (shown h table)) ≡ (if ltb i (h .count) then 1 else 0)
@@ -30,26 +30,27 @@ pub record SoundIs (h : Header) (table : List ℕ) : Type 0 where
   -- "`audit` says whether the table is sound."
   pub the-test : Sound h table ↔ (isSound h table ≡ true)
   -- A table is sound exactly when it is the PreTree of some set
-  pub of-a-set : Sound h table ↔ ((S : List ℕ) × HoldsSet h table S)
+  pub of-a-set : Sound h table ↔ ((S : List Entry) × HoldsSet h table S)
 
 pub record OneTree : Type 0 where
   -- two tables of one set and width differ in row numbers alone
   pub one-tree :
-      {h h′ : Header} {table table′ S : List ℕ} → h .width ≡ h′ .width → HoldsSet h table S → HoldsSet h′ table′ S
+      {h h′ : Header} {table table′ : List ℕ} {S : List Entry} → h .width ≡ h′ .width → HoldsSet h table S → HoldsSet h′ table′ S
       → unnumbered (shown h table) ≡ unnumbered (shown h′ table′)
-  -- the set of a table is the listing of its keys,
-  pub its-listing : {h : Header} {table S : List ℕ} → HoldsSet h table S → listing (shown h table) ≡ S
+  -- the set of a table is the list of the entries in its rows,
+  pub its-entries : {h : Header} {table : List ℕ} {S : List Entry} → HoldsSet h table S → entries (shown h table) ≡ S
   -- so it is the only one
-  pub one-set : {h : Header} {table S S′ : List ℕ} → HoldsSet h table S → HoldsSet h table S′ → S ≡ S′
+  pub one-set : {h : Header} {table : List ℕ} {S S′ : List Entry} → HoldsSet h table S → HoldsSet h table S′ → S ≡ S′
 
 -- rows that hold the set S, whatever words follow them in the table
-pub record RowsOf (W : ℕ) (S rest : List ℕ) : Type 0 where
+pub record RowsOf (W : ℕ) (S : List Entry) (rest : List ℕ) : Type 0 where
   pub rows : List ℕ
   pub as-many : length rows ≡ rowWords * length S
   -- each of their words is a word of the width or the number of a row
-  pub words : (w : ℕ) → w ∈ rows → (w < 2 ^ W) ⊎ (w < length S)
+  pub each-word : (w : ℕ) → w ∈ rows → (w < 2 ^ W) ⊎ (w < length S)
   pub held : HoldsSet (record { width = W; count = length S }) (rows ++ rest) S
 
 -- There are such rows for every set of words of every width, so no promise about sound tables speaks of nothing
 abbrev pub EverySetHasRows : Type 0
-EverySetHasRows = (W : ℕ) (S rest : List ℕ) → Increasing S → ((x : ℕ) → x ∈ S → x < 2 ^ W) → RowsOf W S rest
+EverySetHasRows =
+    (W : ℕ) (S : List Entry) (rest : List ℕ) → Increasing (words S) → ((x : ℕ) → x ∈ words S → x < 2 ^ W) → RowsOf W S rest

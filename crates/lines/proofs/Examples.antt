@@ -2,11 +2,11 @@
 use mathlib.Core.Path.{_≡_, refl}
 use Rattle.ordered.specs.Such.{last-such}
 use Rattle.ordered.specs.Word.{side}
-use Rattle.ordered.specs.Tree.{intact, size, listing}
+use Rattle.ordered.specs.Tree.{intact, size, entries}
 use Rattle.ordered.specs.Way.{way, rows, broken, joined, following, passing-equal, pushing, down, staying}
 use Rattle.ordered.specs.Reading.{rowsOf, brokenIn, has, next, prev, last, gap}
 use Rattle.ordered.specs.Change.{adding, pushed, left-over, raised, erasing}
-use Rattle.pretree.specs.Table.{capacity, rowAt, withKey, withLink, withRow}
+use Rattle.pretree.specs.Table.{capacity, rowAt, withEntry, withLink, withRow}
 use Rattle.pretree.specs.Unfold.{unfolded, shown}
 use Rattle.pretree.specs.Sound.{isSound}
 use Rattle.pretree.specs.Answer.{numberOf, keyOf}
@@ -29,8 +29,8 @@ unfolding parse afterWord readNumber isNumber areDigits spelt digits digitsWithi
     listedBy after answer written writtenFor ended unended linesOf output
     hasReply nextReply prevReply has next prev last gap numberOf keyOf
     shown unfolded rowAt capacity wrong-header too-wide rowsOf brokenIn way rows broken following passing-equal down staying last-such side
-    addOutcome adding pushed left-over grown taking withKey withLink withRow
-    delOutcome secondWay astray moving shrunk raised erasing newReply newTable listReply listBuffer isSound intact size listing pushing joined
+    addOutcome adding pushed left-over grown taking withEntry withLink withRow
+    delOutcome secondWay astray moving shrunk raised erasing newReply newTable listReply listBuffer isSound intact size entries pushing joined
 example-agrees = refl
 
 -- "or at the end of input if bytes are left"

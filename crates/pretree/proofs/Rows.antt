@@ -1,20 +1,33 @@
 -- The laws of a table's rows under the three writes: what stands in the row that is written, that every other row and every word past the rows
 -- stays, and that the length stays. Other files and crates use these and look at no word of a row themselves.
 use Prim.Native.Nat.{ℕ, suc, _+_, _*_, _≤_, _<_}
-use mathlib.Core.Path.{_≡_, refl, sym, ap, _∙_}
-use mathlib.Core.List.{List, [], _∷_}
+use mathlib.Core.Path.{_≡_, refl, ap, _∙_}
+use mathlib.Core.List.{List, [], _∷_, _++_}
 use native.Mathlib.Numerals.{add-one, add-two}
 use native.Mathlib.Omega.{arith}
 use lib.ListN.{length, getD, set, length-set}
-use lib.Seq.{getD-set-same, getD-set-other, length-sets, set-getD}
+use lib.Seq.{getD-set-same, getD-set-other, length-sets, set-getD, getD-append-seam, getD-append-add}
+use Rattle.ordered.specs.Such.{Perhaps, no-such, such}
 use Rattle.ordered.specs.Dictionary.{Entry}
 use Rattle.ordered.specs.Word.{Side, left, right, bitOf}
+use Rattle.ordered.specs.Way.{Step}
+use Rattle.ordered.specs.Change.{Take}
+use Rattle.ordered.proofs.Parts.{All, none-all, one-all}
 use Rattle.pretree.specs.declared.Row.{Row}
-use Rattle.pretree.specs.Table.{rowWords, toCode, rowAt, link, withEntry, withLink, withRow}
+use Rattle.pretree.specs.Table.{rowWords, capacity, toCode, rowAt, link, withEntry, withLink, withRow, cleared}
+use Rattle.pretree.specs.Add.{taking, hooking}
 
 -- row i lies in the table
 abbrev pub HasRow : List ℕ → ℕ → Type 0
 HasRow table i = rowWords * i + rowWords ≤ length table
+
+-- the rows below the capacity lie in the table
+pub rows-fit : (n : ℕ) (table : List ℕ) → n ≤ capacity table → rowWords * n ≤ length table
+unfolding capacity
+rows-fit n table room = omega arith
+
+pub has-row : (table : List ℕ) (i n : ℕ) → i < n → rowWords * n ≤ length table → HasRow table i
+has-row table i n used room = omega arith
 
 -- the row with another entry, and with another link
 abbrev pub holding : Entry → Row → Row
@@ -129,6 +142,15 @@ pub row-length : (i : ℕ) (r : Row) (table : List ℕ) → length (withRow i r 
 unfolding withRow
 row-length i r table = length-sets table (rowWords * i) (r .entry .key ∷ r .left ∷ r .right ∷ [])
 
+pub taking-length : (ts : List Take) (table : List ℕ) → length (taking ts table) ≡ length table
+unfolding taking
+taking-length [] table = refl
+taking-length (t ∷ ts) table = taking-length ts (withEntry (t .at) (t .entry) table) ∙ entry-length (t .at) (t .entry) table
+
+pub hooking-length : (p : Perhaps Step) (i : ℕ) (table : List ℕ) → length (hooking p i table) ≡ length table
+hooking-length no-such i table = refl
+hooking-length (such s) i table = link-length (s .at) (s .turn) i table
+
 -- nor a word past the first c rows, where the row is one of them
 module _ (c p : ℕ) (past : rowWords * c ≤ p) (i : ℕ) (used : i < c) (table : List ℕ) where
   word-past : (q v : ℕ) (xs : List ℕ) → q < rowWords * i + rowWords → getD (set xs q v) p 0 ≡ getD xs p 0
@@ -151,3 +173,41 @@ module _ (c p : ℕ) (past : rowWords * c ≤ p) (i : ℕ) (used : i < c) (table
       let two : List ℕ = set one (suc at) (r .left) in
       word-past (suc (suc at)) (r .right) two (omega arith) ∙ word-past (suc at) (r .left) one (omega arith)
       ∙ word-past at (r .entry .key) table (omega arith)
+
+-- two tables with the same words in a row have the same row there
+pub same-row :
+    (table table′ : List ℕ) (i : ℕ) → ((p : ℕ) → rowWords * i ≤ p → p < rowWords * i + rowWords → getD table′ p 0 ≡ getD table p 0)
+    → rowAt table′ i ≡ rowAt table i
+unfolding rowAt
+same-row table table′ i same =
+    rw (
+      same (rowWords * i) (omega arith) (omega arith),
+      same (rowWords * i + 1) (omega arith) (omega arith),
+      same (rowWords * i + 2) (omega arith) (omega arith),
+    )
+
+-- and a row of zeros is a cleared row
+pub zero-row :
+    (table : List ℕ) (i : ℕ) → ((p : ℕ) → rowWords * i ≤ p → p < rowWords * i + rowWords → getD table p 0 ≡ 0) → rowAt table i ≡ cleared
+unfolding rowAt
+zero-row table i zeros =
+    rw (
+      zeros (rowWords * i) (omega arith) (omega arith),
+      zeros (rowWords * i + 1) (omega arith) (omega arith),
+      zeros (rowWords * i + 2) (omega arith) (omega arith),
+    )
+
+-- a row as words
+abbrev pub rowAsWords : Row → List ℕ
+rowAsWords r = r .entry .key ∷ r .left ∷ r .right ∷ []
+
+-- what holds of the word of its entry and of both links holds of each of its words
+pub each-in-row : (P : ℕ → Type 0) (r : Row) → P (r .entry .key) → ((s : Side) → P (link r s)) → All P (rowAsWords r)
+each-in-row P r own links = one-all own (one-all (links left) (one-all (links right) none-all))
+
+-- the row that is read where those words stand
+pub row-read : (i : ℕ) (r : Row) (before rest : List ℕ) → length before ≡ rowWords * i → rowAt (before ++ (rowAsWords r ++ rest)) i ≡ r
+unfolding rowAt
+row-read i r before rest at =
+    let words : List ℕ = r .entry .key ∷ r .left ∷ r .right ∷ rest in
+    rw (← at, getD-append-seam, getD-append-add before words 1 0, getD-append-add before words 2 0)

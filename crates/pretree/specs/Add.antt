@@ -14,6 +14,10 @@ use Rattle.pretree.specs.Table.{capacity, leafRow, withEntry, withLink, 
 use Rattle.pretree.specs.Unfold.{shown}
 use Rattle.pretree.specs.Reply.{wrong-header, too-wide, refused, answered}
 
+-- the entry that `add` of a word puts into the set
+abbrev pub entryFor : ℕ → Entry
+entryFor k = record { key = k }
+
 -- each row takes its entry
 unfoldable pub taking : List Take → List ℕ → List ℕ
 taking [] table = table

@@ -7,7 +7,7 @@ use Rattle.pretree.specs.declared.Reply.{Reply}
 use Rattle.pretree.specs.declared.Call.{Call}
 use Rattle.pretree.specs.declared.Call.the-variants.{New, Add, Del, Has, Next, Prev, Gap, First, Last, Audit}
 use Rattle.pretree.specs.Find.{hasReply, nextReply, prevReply, firstReply, lastReply, gapReply}
-use Rattle.pretree.specs.Add.{Outcome, addOutcome}
+use Rattle.pretree.specs.Add.{entryFor, Outcome, addOutcome}
 use Rattle.pretree.specs.Del.{delOutcome}
 use Rattle.pretree.specs.Whole.{newReply, newTable, auditReply, listReply, listBuffer}
 
@@ -21,7 +21,7 @@ pub record After : Type 0 where
 unfoldable pub after : Call → Header → List ℕ → List ℕ → After
 after (New w) h table buffer = record { reply = newReply h w; table = newTable table w; buffer = buffer }
 after (Add k) h table buffer =
-    let added : Outcome = addOutcome h table (record { key = k }) in
+    let added : Outcome = addOutcome h table (entryFor k) in
     record { reply = added .reply; table = added .table; buffer = buffer }
 after (Del k) h table buffer = record { reply = delOutcome h table k .reply; table = delOutcome h table k .table; buffer = buffer }
 after (Has k) h table buffer = record { reply = hasReply h table k; table = table; buffer = buffer }

@@ -27,14 +27,14 @@ ghost use mathlib.Core.Bool.{false};
 ghost use Prim.Native.Nat.{_-_, _≤_, _<_};
 ghost use Rattle.pretree.specs.Table.{capacity, rowAt, fromCode};
 ghost use Rattle.pretree.specs.Reply.{wrong-header, too-wide};
-ghost use Rattle.pretree.specs.Add.{addOutcome, taking};
+ghost use Rattle.pretree.specs.Add.{entryFor, addOutcome, taking};
 ghost use Rattle.pretree.specs.Push.{takes-from, left-from, Rising, endBits, endSide, Growable, grownOutcome, Displaces};
 
 impl Header {
     // "`add` k: the way of k. If it ends at a key greater than k, that row takes k and its old key is pushed down".
     pub fn add(self, table: &mut [u32], word: u32) -> Reply
-        ensures { λ r. ⌜ r ≡ addOutcome self (now (table .entry)) (record { key = word }) .reply ⌝ }
-        ensures { λ _. ⌜ now (table .exit) ≡ addOutcome self (now (table .entry)) (record { key = word }) .table ⌝ }
+        ensures { λ r. ⌜ r ≡ addOutcome self (now (table .entry)) (entryFor word) .reply ⌝ }
+        ensures { λ _. ⌜ now (table .exit) ≡ addOutcome self (now (table .entry)) (entryFor word) .table ⌝ }
     {
         if self.refuses(table, word) {
             return self.refusal(table);

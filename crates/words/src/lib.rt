@@ -7,7 +7,7 @@ use pretree::Header;
 use pretree::Reply;
 ghost use mathlib.Core.Path.{_≡_};
 ghost use Rattle.pretree.specs.Find.{hasReply, nextReply, prevReply, firstReply, lastReply, gapReply};
-ghost use Rattle.pretree.specs.Add.{addOutcome};
+ghost use Rattle.pretree.specs.Add.{entryFor, addOutcome};
 ghost use Rattle.pretree.specs.Del.{delOutcome};
 ghost use Rattle.pretree.specs.Whole.{newReply, newTable, auditReply, listReply, listBuffer};
 ghost use Rattle.words.specs.Packed.{headerOf, sixOf, packed};
@@ -108,8 +108,8 @@ pub extern "C" fn words_add(
     word: u32,
     reply: &mut [u32; 6],
 )
-    ensures reply { λ _. ⌜ now (reply .exit) ≡ packed (addOutcome (headerOf width count) (now (table .entry)) word .reply) ⌝ }
-    ensures table { λ _. ⌜ now (table .exit) ≡ addOutcome (headerOf width count) (now (table .entry)) word .table ⌝ }
+    ensures reply { λ _. ⌜ now (reply .exit) ≡ packed (addOutcome (headerOf width count) (now (table .entry)) (entryFor word) .reply) ⌝ }
+    ensures table { λ _. ⌜ now (table .exit) ≡ addOutcome (headerOf width count) (now (table .entry)) (entryFor word) .table ⌝ }
 {
     let header = Header { width, count };
     *reply = packed(header.add(table, word));
