@@ -122,7 +122,7 @@ SecondDamage h table = DamageRead h table (wayOf (last-key h table) h table ∷ 
 -- any way it needs would." (For `audit` and `list`, 4 means not sound; `new` reads no row.)
 unfoldable pub DamageOn : Call → Header → List ℕ → Type 0
 DamageOn (New w) h table = ⊥
-DamageOn (Add k) h table = DamageRead h table (adding (h .width) (entryFor k) (named h table) .rows-read ∷ [])
+DamageOn (Add k serial) h table = DamageRead h table (adding (h .width) (entryFor k serial) (named h table) .rows-read ∷ [])
 DamageOn (Del k) h table =
     DamageRead h table (erasing (h .width) k (named h table) .rows-read ∷ []) ⊎ (Moves k h table × SecondDamage h table)
 DamageOn (Has k) h table = DamageRead h table (has (h .width) k (named h table) .ways)
