@@ -388,4 +388,4 @@ one-row = record { has-4 = fails (damage-tested (Has 4) h table); has-8 = damage
     h = record { width = 4; count = 1 }
 
     table : List ℕ
-    table = 4 ∷ 0 ∷ 9 ∷ []
+    table = 4 ∷ 0 ∷ 9 ∷ 0 ∷ []

@@ -134,10 +134,11 @@ DamageOn Last h table = DamageRead h table (last (h .width) (named h table) .way
 DamageOn Audit h table = ⊥
 DamageOn Call.List h table = ⊥
 
--- A test: "One row 4, 0, 9 with W 4 and count 1: `has` 4 found, 1 row; `has` 8 answers 4": a link that no way follows is no damage
+-- A test: "One row 4, 0, 9 with W 4 and count 1: `has` 4 found, 1 row; `has` 8 answers 4": a link that no way follows is no damage.
+-- Document 02 §1 makes it four words; the serial is 0 here
 pub record OneRow : Type 0 where
-  pub has-4 : ¬ DamageOn (Has 4) (record { width = 4; count = 1 }) (4 ∷ 0 ∷ 9 ∷ [])
-  pub has-8 : DamageOn (Has 8) (record { width = 4; count = 1 }) (4 ∷ 0 ∷ 9 ∷ [])
+  pub has-4 : ¬ DamageOn (Has 4) (record { width = 4; count = 1 }) (4 ∷ 0 ∷ 9 ∷ 0 ∷ [])
+  pub has-8 : DamageOn (Has 8) (record { width = 4; count = 1 }) (4 ∷ 0 ∷ 9 ∷ 0 ∷ [])
 
 -- A table that holds a set has no damage.
 abbrev pub NoneInSets : Type 0
