@@ -13,18 +13,21 @@ The kinds:
   9        W is another, or any number; or the count is any number
   10       the rows that are not in use, and the words past the last row, are any words
   11       two rows have changed places, and the links are as they were
+The serials of the rows in use are those that `Draw.serial` gives. A serial is never damage, so a
+table of kind 1, 2 or 3 where only serials were changed is sound.
 """
 from collections import namedtuple
 
 import pretree
+from pretree import ROW, key_place, link_place
 
 KINDS = 12
 WIDTHS = [1, 2, 3, 4, 5, 6, 7, 8, 32]
 SINGLE = ["has", "next", "prev", "gap", "add", "del"]
 
 # A table with its header and the length of a list buffer. Each call of `apart` is to be tried on
-# a copy; those of `after` go on, one with what the one before left. A call is (name, number),
-# or (name,) where it takes none.
+# a copy; those of `after` go on, one with what the one before left. A call is its name and then
+# its numbers: two for `add`, none for some, one for the others.
 Damaged = namedtuple("Damaged", "kind header table room apart after")
 
 
@@ -33,6 +36,7 @@ class Draw:
 
     def __init__(self, seed):
         self.x = seed % 2 ** 32
+        self.last_serial = 0
 
     def draw(self, n):
         """A number below n; n is 1 to 65,536."""
@@ -44,6 +48,20 @@ class Draw:
         a = self.draw(65536)
         b = self.draw(65536)
         return a * 65536 + b
+
+    def serial(self):
+        """0, 1, the largest, a small one (so that it could be a link), the one drawn last or the one after it, or any."""
+        p = self.draw(8)
+        if p < 3:
+            drawn = (0, 1, 2 ** 32 - 1)[p]
+        elif p == 3:
+            drawn = self.draw(20)
+        elif p < 6:
+            drawn = (self.last_serial + p - 4) % 2 ** 32
+        else:
+            drawn = self.wild()
+        self.last_serial = drawn
+        return drawn
 
 
 class Dice(Draw):
@@ -63,7 +81,8 @@ class Dice(Draw):
 
 
 def change_one_word(g, word, table, c):
-    p = g.draw(3 * c)
+    # Mostly a key or a link, now and then a serial.
+    p = ROW * g.draw(c) + (0, 0, 1, 1, 2, 2, 3)[g.draw(7)]
     v = g.draw(6)
     old = table[p]
     if v == 0:
@@ -93,10 +112,10 @@ def damage(g, kind, word, table, header):
         table[:] = [g.draw(cap + 2) for _ in table]
     elif kind == 6 and c != 0:
         i, s, r = g.draw(c), g.draw(2), g.draw(c)
-        table[3 * i + 1 + s] = r
+        table[link_place(i, s)] = r
     elif kind == 7 and c != 0:
         i, s, j, t = g.draw(c), g.draw(2), g.draw(c), g.draw(2)
-        table[3 * i + 1 + s] = table[3 * j + 1 + t]
+        table[link_place(i, s)] = table[link_place(j, t)]
     elif kind == 8:
         header = (w, g.draw(cap + 3))
     elif kind == 9:
@@ -108,12 +127,12 @@ def damage(g, kind, word, table, header):
         else:
             header = (w, g.wild())
     elif kind == 10:
-        for p in range(3 * c, len(table)):
+        for p in range(ROW * c, len(table)):
             table[p] = g.wild()
     elif kind == 11 and c > 1:
         i, j = g.draw(c), g.draw(c)
-        for p in range(3):
-            table[3 * i + p], table[3 * j + p] = table[3 * j + p], table[3 * i + p]
+        for p in range(ROW):
+            table[ROW * i + p], table[ROW * j + p] = table[ROW * j + p], table[ROW * i + p]
     return header
 
 
@@ -121,34 +140,39 @@ def grown(g, w, word, table):
     """A sound table, after `new`, some adds and some dels; returns the header."""
     header = pretree.new(table, (g.wild(), g.wild()), w).header
     for _ in range(g.draw(24)):
-        header = pretree.add(table, header, word()).header
+        header = pretree.add(table, header, word(), g.serial()).header
     for _ in range(g.draw(4)):
         if header[1] > 2:
-            header = pretree.del_(table, header, table[3 * g.draw(header[1])]).header
+            header = pretree.del_(table, header, table[key_place(g.draw(header[1]))]).header
     return header
 
 
 def one_table(g, kind):
     w = WIDTHS[g.draw(9)]
     cap = g.draw(17)
-    extra = g.draw(3)
+    extra = g.draw(4)
     near = g.draw(2)
 
     def word():
         return g.draw(min(2 ** w, 32)) if near == 1 else g.wild() // 2 ** (32 - w)
 
-    table = [g.wild() for _ in range(3 * cap + extra)]
+    table = [g.wild() for _ in range(ROW * cap + extra)]
     header = damage(g, kind, word, table, grown(g, w, word, table))
 
     def pick():
-        return table[3 * g.draw(header[1])] if 0 < header[1] <= cap else word()
+        return table[key_place(g.draw(header[1]))] if 0 < header[1] <= cap else word()
+
+    def call(name, k):
+        return (name, k, g.serial()) if name == "add" else (name, k)
 
     # Words of the table, those beside one of them, others of the width, and one too wide.
     k = pick()
     ks = [k, (k + 1) % 2 ** 32, (k + 2 ** 32 - 1) % 2 ** 32, pick(), pick(), word(), word(), 2 ** w % 2 ** 32]
-    apart = [(name, k) for k in ks for name in SINGLE]
+    apart = [call(name, k) for k in ks for name in SINGLE]
     apart += [("first",), ("last",), ("audit",), ("list",), ("new", g.draw(40))]
-    after = [(name, k) for k in (ks[0], ks[1], ks[3]) for name in ("del", "add")] + [("audit",)]
+    # The last `add` answers 7 where the one before it put the word in.
+    after = [call(name, k) for k in (ks[0], ks[1], ks[3]) for name in ("del", "add")]
+    after += [call("add", ks[1]), ("audit",)]
     return Damaged(kind, header, table, g.draw(20), apart, after)
 
 

@@ -1,6 +1,7 @@
-"""The plain ordered dictionary of source document 004, with the calls of document 01.
+"""The plain ordered dictionary of source document 004, with the calls of document 01 and the serials of document 02 §1.
 
-Words are a sorted list and answers come from it alone. Rows read are computed over
+It is a map from words to serials. The words are also kept as a sorted list, and
+answers come from these two alone. Rows read are computed over
 the sound tree of the set, never over a table: "The sound tree of a set is: its
 least word at the root, the rest parted by the next bit, and so on down." A part of
 that tree is a sorted list too, so its least word is part[0].
@@ -75,13 +76,14 @@ class Dictionary:
         self.capacity = capacity
         self.w = 0
         self.words = []
+        self.serials = {}       # word -> serial
         self.number = {}        # place -> row number
 
     def header(self):
         return (self.w, len(self.words))
 
-    def reply(self, answer, key=None, rows=0, moving=0):
-        return Reply(answer, key, rows, moving, self.header())
+    def reply(self, answer, key=None, rows=0, moving=0, serial=None):
+        return Reply(answer, key, rows, moving, serial, self.header())
 
     def refused(self, k=None):
         if not 1 <= self.w <= 32:
@@ -93,12 +95,13 @@ class Dictionary:
     def new(self, w):
         if not 1 <= w <= 32:
             return self.reply(1)
-        self.w, self.words, self.number = w, [], {}
+        self.w, self.words, self.serials, self.number = w, [], {}, {}
         return self.reply(0)
 
     def has(self, k):
+        # Only a word that is there has a serial.
         return self.refused(k) or self.reply(
-            0 if k in self.words else 8, None, len(way(self.words, self.w, k)))
+            0 if k in self.words else 8, None, len(way(self.words, self.w, k)), serial=self.serials.get(k))
 
     def next(self, k):
         if self.refused(k):
@@ -150,12 +153,13 @@ class Dictionary:
         rows = rows_down(self.words, self.w, 0, right_first=True)
         return self.reply(0, self.words[-1], rows) if self.words else self.reply(8)
 
-    def add(self, k):
+    def add(self, k, serial):
         if self.refused(k):
             return self.refused(k)
         steps = way(self.words, self.w, k)
         rows = len(steps)
         if k in self.words:
+            self.serials[k] = serial
             return self.reply(7, None, rows)
         if len(self.words) == self.capacity:
             return self.reply(5)
@@ -164,6 +168,7 @@ class Dictionary:
             rows += rows_pushed(part, self.w, depth) - 1
         before = places(self.words, self.w)
         insort(self.words, k)
+        self.serials[k] = serial
         grown = [p for p in places(self.words, self.w) if p not in before]
         assert len(grown) == 1
         self.number[grown[0]] = len(self.words) - 1
@@ -180,6 +185,7 @@ class Dictionary:
         rows += rows_down(part, self.w, depth, right_first=False) - 1
         before = places(self.words, self.w)
         self.words.remove(k)
+        del self.serials[k]
         gone = [p for p in before if p not in places(self.words, self.w)]
         assert len(gone) == 1
         hole = self.number.pop(gone[0])
@@ -204,11 +210,12 @@ class Dictionary:
         return self.reply(0, None, len(self.words))
 
     def rows(self):
-        """The table that document 01 asks for, all rows up to capacity."""
-        table = [0] * (3 * self.capacity)
+        """The table that the documents ask for, all rows up to capacity: key, left link, right link, serial."""
+        table = [0] * (4 * self.capacity)
         for place, word in places(self.words, self.w).items():
             n = self.number[place]
-            table[3 * n] = word
-            table[3 * n + 1] = self.number.get(place + "0", 0)
-            table[3 * n + 2] = self.number.get(place + "1", 0)
+            table[4 * n] = word
+            table[4 * n + 1] = self.number.get(place + "0", 0)
+            table[4 * n + 2] = self.number.get(place + "1", 0)
+            table[4 * n + 3] = self.serials[word]
         return table

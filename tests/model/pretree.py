@@ -1,19 +1,22 @@
-"""The PreTree over a raw table, written from document 01 sentence by sentence.
+"""The PreTree over a raw table, written from document 01 and document 02 §1 sentence by sentence.
 
 A table is a list of 32-bit words of any content; a header is a pair (W, count)
 of any two 32-bit numbers. Every call changes the table (or the list buffer) in
-place and returns a Reply. The quotes are document 01's.
+place and returns a Reply. The quotes are document 01's, or §1's where it says so.
 """
 from collections import namedtuple
 
 # "Every reply is a struct: the kind of answer with its key, and the two row
 # counts beside it." / "Each call takes the header and hands the new header back"
-Reply = namedtuple("Reply", "answer key rows moving header")
+# §1: "the serial for a `has` that found its word", else None.
+Reply = namedtuple("Reply", "answer key rows moving serial header")
 
-# A row that was read: where it is, how it was reached, and its key.
+# A row that was read: where it is, how it was reached, and its entry: key and serial.
 # `path` is the number made of the bits of the path, so it is below 2^depth.
-Row = namedtuple("Row", "row depth path key")
+Row = namedtuple("Row", "row depth path key serial")
 
+# §1: "A row is then four words"
+ROW = 4
 LARGEST_CAPACITY = 65535
 
 
@@ -24,8 +27,8 @@ class Damage(Exception):
 # ---- header and table ----
 
 def capacity(table):
-    # "Capacity is the table's length divided by 3, rounded down, and at most 65,535."
-    return min(len(table) // 3, LARGEST_CAPACITY)
+    # §1: "capacity the length divided by 4, at most 65,535"; "rounded down", as before.
+    return min(len(table) // ROW, LARGEST_CAPACITY)
 
 
 def bad_width(w):
@@ -45,17 +48,32 @@ def bit(w, depth, k):
     return (k >> (w - 1 - depth)) & 1
 
 
+# "A row is three table words: key, left link, right link." §1: "Each row gets a fourth
+# word, the serial handed in with `add`". So row i begins at table word 4i.
+
+def key_place(row):
+    return ROW * row
+
+
 def link_place(row, side):
-    # "A row is three table words: key, left link, right link. Row i begins at
-    # table word 3i." Side 0 is left, side 1 is right.
-    return 3 * row + 1 + side
+    # Side 0 is left, side 1 is right.
+    return ROW * row + 1 + side
+
+
+def serial_place(row):
+    return ROW * row + 3
+
+
+def put(table, row, entry):
+    """Writes a row's entry, key and serial; the links stay."""
+    table[key_place(row)], table[serial_place(row)] = entry
 
 
 # ---- reading rows, with damage judged on the way only ----
 
 def read(table, w, row, depth, path, above):
     """Read one row; `above` is the key of the row it was reached from."""
-    key = table[3 * row]
+    key = table[key_place(row)]
     # "a row read has a key of 2^W or more,"
     if key >= 2 ** w:
         raise Damage
@@ -66,9 +84,10 @@ def read(table, w, row, depth, path, above):
     if key >> (w - depth) != path:
         raise Damage
     # "a row read at depth W has a link other than 0;"
-    if depth == w and (table[3 * row + 1] != 0 or table[3 * row + 2] != 0):
+    if depth == w and (table[link_place(row, 0)] != 0 or table[link_place(row, 1)] != 0):
         raise Damage
-    return Row(row, depth, path, key)
+    # No rule of damage speaks of the serial: "any 32-bit number" will do (§1).
+    return Row(row, depth, path, key, table[serial_place(row)])
 
 
 def read_root(table, w):
@@ -139,7 +158,7 @@ def ends_at(way, k):
 
 def refusal(answer, header):
     # "1 to 6 and 9 are refusals: counts 0, header, table and buffer untouched."
-    return Reply(answer, None, 0, 0, header)
+    return Reply(answer, None, 0, 0, None, header)
 
 
 def judged(call):
@@ -147,15 +166,16 @@ def judged(call):
 
     2 and 3 are here; the call itself gives 7, 8 and 5 after all damage is judged
     ("All of it is judged before anything is written."), so 4 may be caught here.
+    The serial of `add` is not judged: it may be 2^W or more.
     """
-    def guarded(table, header, k):
+    def guarded(table, header, k, *serial):
         if bad_header(table, header):
             return refusal(2, header)
         # 3: "k is 2^W or more"
         if k >= 2 ** header[0]:
             return refusal(3, header)
         try:
-            return call(table, header, k)
+            return call(table, header, k, *serial)
         except Damage:
             return refusal(4, header)
     guarded.__name__ = call.__name__
@@ -172,17 +192,20 @@ def new(table, header, w):
         return refusal(1, header)
     # "`new` makes no check but 1; it clears every row and hands back its W with a
     # count of 0." Every row is every row up to capacity: "Words past the last whole
-    # row, or past that limit, are never changed."
-    for place in range(3 * capacity(table)):
+    # row, or past that limit, are never changed." §1: "cleared rows hold four zeros".
+    for place in range(ROW * capacity(table)):
         table[place] = 0
     # "`new` reads no row"
-    return Reply(0, None, 0, 0, (w, 0))
+    return Reply(0, None, 0, 0, None, (w, 0))
 
 
 @judged
 def has(table, header, k):
     way = way_of(table, header, k)
-    return Reply(0 if ends_at(way, k) else 8, None, len(way), 0, header)
+    if not ends_at(way, k):
+        return Reply(8, None, len(way), 0, None, header)
+    # §1: "the serial for a `has` that found its word"
+    return Reply(0, None, len(way), 0, way[-1][0].serial, header)
 
 
 @judged
@@ -191,14 +214,14 @@ def next_(table, header, k):
     way = way_of(table, header, k, through_equal=True)
     # "If it meets a key greater than k, that is the answer."
     if way and way[-1][0].key > k:
-        return Reply(0, way[-1][0].key, len(way), 0, header)
+        return Reply(0, way[-1][0].key, len(way), 0, None, header)
     # "Otherwise take the deepest row where the way went left and a right link
     # exists; its right child is read and is the answer."
     # "Went left" is read as "turned left", so also where the left link is empty.
     for at, turn in reversed(way):
         if turn == 0 and table[link_place(at.row, 1)] != 0:
-            return Reply(0, child(table, header, at, 1).key, len(way) + 1, 0, header)
-    return Reply(8, None, len(way), 0, header)
+            return Reply(0, child(table, header, at, 1).key, len(way) + 1, 0, None, header)
+    return Reply(8, None, len(way), 0, None, header)
 
 
 @judged
@@ -207,7 +230,7 @@ def prev(table, header, k):
     way = way_of(table, header, k)
     smaller = [(at, turn) for at, turn in way if at.key < k]
     if not smaller:
-        return Reply(8, None, len(way), 0, header)
+        return Reply(8, None, len(way), 0, None, header)
     p, turn = smaller[-1]
     # "If the way turned right at p and p has a left child, go down from that child,
     # right link first, else left link, until both are none; that row is the answer."
@@ -215,9 +238,9 @@ def prev(table, header, k):
         start = child(table, header, p, 0)
         rows = [start] + go_down(table, header, start, 1)
         # "All rows of both stretches count."
-        return Reply(0, rows[-1].key, len(way) + len(rows), 0, header)
+        return Reply(0, rows[-1].key, len(way) + len(rows), 0, None, header)
     # "Otherwise p."
-    return Reply(0, p.key, len(way), 0, header)
+    return Reply(0, p.key, len(way), 0, None, header)
 
 
 @judged
@@ -225,7 +248,7 @@ def gap(table, header, k):
     # "distance 0 if k is present (count: the way of k)."
     way = way_of(table, header, k)
     if ends_at(way, k):
-        return Reply(0, 0, len(way), 0, header)
+        return Reply(0, 0, len(way), 0, None, header)
     # "Else the smaller of the distances to `prev` and `next`, or the only one there
     # is; its count is the two counts added"
     before = prev(table, header, k)
@@ -241,8 +264,8 @@ def gap(table, header, k):
     rows = before.rows + after.rows
     # 8: "`gap`: empty set"
     if not distances:
-        return Reply(8, None, rows, 0, header)
-    return Reply(0, min(distances), rows, 0, header)
+        return Reply(8, None, rows, 0, None, header)
+    return Reply(0, min(distances), rows, 0, None, header)
 
 
 def first(table, header):
@@ -253,10 +276,10 @@ def first(table, header):
     w, count = header
     # 8: "`next`, `prev`, `first`, `last`: no such word"
     if count == 0:
-        return Reply(8, None, 0, 0, header)
+        return Reply(8, None, 0, 0, None, header)
     # "`first` reads the root."
     try:
-        return Reply(0, read_root(table, w).key, 1, 0, header)
+        return Reply(0, read_root(table, w).key, 1, 0, None, header)
     except Damage:
         return refusal(4, header)
 
@@ -266,26 +289,30 @@ def last(table, header):
         return refusal(2, header)
     w, count = header
     if count == 0:
-        return Reply(8, None, 0, 0, header)
+        return Reply(8, None, 0, 0, None, header)
     # "`last` goes down from the root by right link, else left link, until both are none."
     try:
         root = read_root(table, w)
         rows = [root] + go_down(table, header, root, 1)
-        return Reply(0, rows[-1].key, len(rows), 0, header)
+        return Reply(0, rows[-1].key, len(rows), 0, None, header)
     except Damage:
         return refusal(4, header)
 
 
 @judged
-def add(table, header, k):
+def add(table, header, k, serial):
     w, count = header
     # "the way of k."
     way = way_of(table, header, k)
-    # 7: "`add` of a word already there"
+    # 7: "`add` of a word already there". §1: it "still answers 7, but now stores the new
+    # serial." "header, keys and links stay." All that can be damage here is on the way,
+    # and that is judged. 7 comes before 5, so it is no matter whether the table is full.
     if ends_at(way, k):
-        return Reply(7, None, len(way), 0, header)
+        table[serial_place(way[-1][0].row)] = serial
+        return Reply(7, None, len(way), 0, None, header)
     # "If it ends at a key greater than k, that row takes k and its old key is pushed
     # down by its own bits, taking each next row's place in turn, until a link is none."
+    # A serial is that of its word, so it goes where the key goes.
     pushed = []
     link_to_set = None
     if way and way[-1][0].key > k:
@@ -311,19 +338,19 @@ def add(table, header, k):
         return refusal(5, header)
     # The writes. Document 01 gives no order for `add`; none can be seen, since the
     # rows of a way without damage are distinct and row `count` is none of them.
-    key = k
+    entry = (k, serial)
     for at in pushed:
-        table[3 * at.row] = key
-        key = at.key
+        put(table, at.row, entry)
+        entry = (at.key, at.serial)
     # "The new row is row `count`, with both links 0, linked where the way or the push
     # ended; it isn't counted as read."
-    table[3 * count] = key
-    table[3 * count + 1] = 0
-    table[3 * count + 2] = 0
+    put(table, count, entry)
+    table[link_place(count, 0)] = 0
+    table[link_place(count, 1)] = 0
     # With a count of 0 the new row is the root, and "no link names it".
     if link_to_set is not None:
         table[link_to_set] = count
-    return Reply(0, None, rows, 0, (w, count + 1))
+    return Reply(0, None, rows, 0, None, (w, count + 1))
 
 
 @judged
@@ -333,7 +360,7 @@ def del_(table, header, k):
     way = way_of(table, header, k)
     # 8: "`has`, `del`: absent"
     if not ends_at(way, k):
-        return Reply(8, None, len(way), 0, header)
+        return Reply(8, None, len(way), 0, None, header)
     # "then from k's row down by left link, else right link,"
     stretch = [way[-1][0]] + go_down(table, header, way[-1][0], 0)
     rows = len(way) + len(stretch) - 1
@@ -353,31 +380,32 @@ def del_(table, header, k):
     if hole.row != last_row:
         # The last row's key may be 2^W or more; its way then follows its low W bits,
         # and whatever it meets, it cannot end at that row without damage.
-        second = way_of(table, header, table[3 * last_row])
+        last_key = table[key_place(last_row)]
+        second = way_of(table, header, last_key)
         # "the second way of `del` doesn't end at row count-1 with its key."
-        if second[-1][0].row != last_row or second[-1][0].key != table[3 * last_row]:
+        if second[-1][0].row != last_row or second[-1][0].key != last_key:
             raise Damage
     # All is judged. "The order is: keys up, unlink, move, set the link."
-    # Keys up: "each row taking the key below".
+    # Keys up: "each row taking the key below", and its serial with it.
     for upper, lower in zip(stretch, stretch[1:]):
-        table[3 * upper.row] = lower.key
+        put(table, upper.row, (lower.key, lower.serial))
     # Unlink. Only a hole at the root has no link to it.
     if parent_of_hole is not None:
         side = hole.path & 1
         table[link_place(parent_of_hole.row, side)] = 0
     if hole.row != last_row:
         # Move: the last row as it now is, after keys up and unlink.
-        for word in range(3):
-            table[3 * hole.row + word] = table[3 * last_row + word]
+        for word in range(ROW):
+            table[ROW * hole.row + word] = table[ROW * last_row + word]
         # Set the link: the last one that the second way followed. There is one: the
         # last row is not the root here, or it would be the only row, and the hole.
         parent, turn = second[-2]
         table[link_place(parent.row, turn)] = hole.row
-    # "Row count-1 is then three zeros."
-    for word in range(3):
-        table[3 * last_row + word] = 0
+    # "Row count-1 is then three zeros." §1: "cleared rows hold four zeros"
+    for word in range(ROW):
+        table[ROW * last_row + word] = 0
     # "The rows of the second way are the moving count; it is 0 where nothing moves"
-    return Reply(0, None, rows, len(second), (w, count - 1))
+    return Reply(0, None, rows, len(second), None, (w, count - 1))
 
 
 # ---- the whole table ----
@@ -391,7 +419,7 @@ def met_from(table, header, row, depth, path, met):
     w, count = header
     if row >= count or depth > w or len(met) == count:
         return False
-    met.append((row, table[3 * row], depth, path))
+    met.append((row, table[key_place(row)], depth, path))
     for side in (0, 1):
         link = table[link_place(row, side)]
         if link != 0 and not met_from(table, header, link, depth + 1, 2 * path + side, met):
@@ -430,7 +458,7 @@ def audit(table, header):
     if sound_listing(table, header) is None:
         return refusal(4, header)
     # "Both count `count` rows."
-    return Reply(0, None, header[1], 0, header)
+    return Reply(0, None, header[1], 0, None, header)
 
 
 def list_(table, header, buffer):
@@ -445,4 +473,4 @@ def list_(table, header, buffer):
         return refusal(6, header)
     # "`list` writes it to a lent buffer of 32-bit words and leaves the rest of the buffer."
     buffer[:len(keys)] = keys
-    return Reply(0, None, header[1], 0, header)
+    return Reply(0, None, header[1], 0, None, header)

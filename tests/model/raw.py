@@ -8,7 +8,8 @@ import lines
 import pretree
 
 LONGEST_LINE = 256
-LARGEST_TABLE = 3 * 65536
+# One row more than the largest capacity, so that words past that limit can be tried.
+LARGEST_TABLE = pretree.ROW * 65536
 LARGEST_BUFFER = 65536
 BLANK = 2863311530
 
@@ -17,7 +18,7 @@ class Runner:
     def __init__(self):
         # It starts as the line program does.
         self.header = (0, 0)
-        self.table = [0] * (3 * lines.ROWS)
+        self.table = [0] * (pretree.ROW * lines.ROWS)
         self.room = lines.ROWS
         self.keep = True
         self.out = []
@@ -38,15 +39,11 @@ class Runner:
             return False
         return True
 
-    def call(self, number, word, k):
+    def call(self, number, word, numbers):
         left, buffer = list(self.table), [BLANK] * self.room
-        if word in lines.WITH_NUMBER:
-            reply = lines.WITH_NUMBER[word](left, self.header, k)
-        elif word == b"list":
-            reply = pretree.list_(left, self.header, buffer)
-        else:
-            reply = lines.ALONE[word](left, self.header)
-        self.reply(number, reply)
+        given = [buffer] if word == b"list" else numbers
+        reply = lines.CALLS[word](left, self.header, *given)
+        self.out.append(lines.reply_line(number, reply))
         self.out.append(f"header\t{reply.header[0]}\t{reply.header[1]}\n")
         for i in range(len(left)):
             if left[i] != self.table[i]:
@@ -56,10 +53,6 @@ class Runner:
                 self.out.append(f"key\t{i}\t{buffer[i]}\n")
         if self.keep:
             self.header, self.table = reply.header, left
-
-    def reply(self, number, reply):
-        key = "-" if reply.key is None else reply.key
-        self.out.append(f"{number}\t{reply.answer}\t{key}\t{reply.rows}\t{reply.moving}\n")
 
     def line(self, number, line):
         if line == b"" or line[:1] == b"#":
@@ -72,7 +65,7 @@ class Runner:
             if lines.parse(line) is not None:
                 self.call(number, *lines.parse(line))
                 return
-        self.reply(number, pretree.refusal(9, self.header))
+        self.out.append(lines.reply_line(number, pretree.refusal(9, self.header)))
 
 
 def run(data):

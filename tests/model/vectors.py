@@ -10,17 +10,19 @@ below after it.
 import os
 import sys
 
+import example
 import lines
 import powerup
 import powerup_vectors
+import pretree
 import raw
 import tray
 import tray_vectors
 from damage import KINDS, Dice, tables
 
 
-def op(word, k=None):
-    return word.encode() if k is None else f"{word}\t{k}".encode()
+def op(word, *numbers):
+    return "\t".join(map(str, (word,) + numbers)).encode()
 
 
 def some_words(g, w, n, dense):
@@ -55,7 +57,7 @@ def near(g, w, words):
     return g.one_of([min(2 ** w, 4294967295), 4294967295, g.wild()])
 
 
-MIX = ["has", "next", "next", "prev", "prev", "gap", "gap", "add", "add", "del", "del"]
+MIX = ["has", "has", "next", "next", "prev", "prev", "gap", "gap", "add", "add", "add", "del", "del"]
 
 
 def mixed(g, w, words, n, lists):
@@ -68,16 +70,27 @@ def mixed(g, w, words, n, lists):
         elif p < 3:
             made.append(op(g.one_of(["first", "last", "audit"])))
         else:
-            made.append(op(g.one_of(MIX), near(g, w, words)))
+            word, k = g.one_of(MIX), near(g, w, words)
+            made.append(op(word, k, g.serial()) if word == "add" else op(word, k))
     return made
 
 
-def adds(words):
-    return [op("add", k) for k in words]
+def adds(g, words):
+    return [op("add", k, g.serial()) for k in words]
 
 
 def dels(words):
     return [op("del", k) for k in words]
+
+
+def serials(words):
+    """Asks for the serial of each: only `has` shows it."""
+    return [op("has", k) for k in words]
+
+
+def again(g, words):
+    """Brings words again that may be there (7), each with another serial, and asks for it."""
+    return adds(g, words) + serials(words)
 
 
 WHOLE = [op("list"), op("audit"), op("first"), op("last")]
@@ -86,10 +99,10 @@ WHOLE = [op("list"), op("audit"), op("first"), op("last")]
 def small(g, w, n):
     """Width w from before the first `new` to full and empty sets, with `list` often."""
     words = list(range(2 ** w))
-    made = [op("add", 0), op("first"), op("list"), op("audit"), op("new", w)] + WHOLE
+    made = [op("add", 0, 1), op("has", 0), op("first"), op("list"), op("audit"), op("new", w)] + WHOLE
     while len(made) < n:
-        made += adds(g.one_of([words, words[::-1], g.shuffled(words)])) + WHOLE
-        made += mixed(g, w, words, 4 * len(words) + 10, True)
+        made += adds(g, g.one_of([words, words[::-1], g.shuffled(words)])) + WHOLE + serials(words)
+        made += mixed(g, w, words, 4 * len(words) + 10, True) + serials(words)
         made += dels(g.one_of([words, words[::-1], g.shuffled(words)])) + WHOLE
         made += mixed(g, w, words, 2 * len(words) + 4, True)
     return made[:n]
@@ -98,22 +111,24 @@ def small(g, w, n):
 def width8(g):
     words = list(range(256))
     some = some_words(g, 8, 40, dense=False)
-    made = [op("new", 8)] + adds(g.shuffled(words)) + WHOLE
-    made += mixed(g, 8, words, 400, False)
-    made += dels(g.shuffled(words)[:200]) + WHOLE
+    made = [op("new", 8)] + adds(g, g.shuffled(words)) + WHOLE + serials(words)
+    made += mixed(g, 8, words, 400, False) + again(g, g.shuffled(words)[:100])
+    made += dels(g.shuffled(words)[:200]) + WHOLE + serials(words)
     made += mixed(g, 8, words, 300, False)
-    made += [op("new", 8)] + adds(some[::-1]) + WHOLE + mixed(g, 8, some, 400, True)
-    made += [op("new", 8)] + adds(words) + dels(words[::-1]) + WHOLE
+    made += [op("new", 8)] + adds(g, some[::-1]) + WHOLE + serials(some) + mixed(g, 8, some, 400, True)
+    made += [op("new", 8)] + adds(g, words) + dels(words[::-1]) + WHOLE
     return made
 
 
 def full(g, w, words, then):
     """5,000 adds in the order given, so the last 904 or so find the table full."""
-    made = [op("new", w)] + adds(words) + WHOLE
+    made = [op("new", w)] + adds(g, words) + WHOLE
+    # The table is full, and 7 stores the serial all the same.
+    made += again(g, g.shuffled(words)[:60])
     made += mixed(g, w, words, then, False)
     # Once more to full: `add` answers 0 a few times, then 5, and 7 for words there.
-    made += dels(words[5:25]) + adds(words[:40]) + [op("audit"), op("last")]
-    return made
+    made += dels(words[5:25]) + again(g, words[:40]) + [op("audit"), op("last")]
+    return made + serials(g.shuffled(words)[:200])
 
 
 def width31(g):
@@ -128,10 +143,10 @@ def width32_reversed(g):
     """Reversed arrivals (every add pushes), erases in three orders."""
     sparse = some_words(g, 32, 500, dense=False)
     dense = list(range(4294967295, 4294967295 - 300, -1))
-    made = [op("new", 32)] + adds(sparse[::-1]) + mixed(g, 32, sparse, 300, False) + WHOLE
-    made += dels(g.shuffled(sparse)[:300]) + WHOLE
-    made += adds(dense) + mixed(g, 32, dense, 300, False) + WHOLE
-    made += dels(dense[:150]) + dels(sparse[:100]) + WHOLE
+    made = [op("new", 32)] + adds(g, sparse[::-1]) + mixed(g, 32, sparse, 300, False) + WHOLE + serials(sparse[:200])
+    made += dels(g.shuffled(sparse)[:300]) + WHOLE + serials(sparse[:200])
+    made += adds(g, dense) + mixed(g, 32, dense, 300, False) + WHOLE
+    made += dels(dense[:150]) + dels(sparse[:100]) + WHOLE + serials(dense[150:])
     return made
 
 
@@ -144,54 +159,71 @@ def new_in_the_middle(g):
             made += [op("new", g.one_of([0, 33, 64, 4294967295, g.wild()])), op("list")]
         words = some_words(g, w, 1 + g.draw(30), dense=g.draw(2) == 0)
         arrivals = g.one_of([words, words[::-1], g.shuffled(words)])
-        made += [op("new", w)] + adds(arrivals) + mixed(g, w, words, g.draw(40), True)
+        made += [op("new", w)] + adds(g, arrivals) + mixed(g, w, words, g.draw(40), True)
     return made
+
+
+def wild_number(g, digits):
+    """What stands where a number should, and is none."""
+    return g.one_of([
+        b"", b" " + digits, digits + b" ", digits + b"a", digits + b"\r", digits + b"\0", b"\0" + digits,
+        digits[:1] + b"\0" + digits[1:], b"\t" + digits, digits + b"\t",
+        b"0" + digits, b"00", b"0" * g.draw(12) + b"07", b"10000000000", b"00000000001", b"99999999999",
+        b"18446744073709551617", b"4294967296", b"4294967300", b"9999999999", b"5000000000",
+        b"-", b"-1", b"+1", b"1.0", b"0x1", b"1_0", b"1e1", b"1,000", b":", b"/", b"\r", b"\xb2", b"\xd9\xa3", b"\xff",
+    ])
 
 
 def wild_line(g):
     """A line that is not read, of every kind that we could think of."""
-    word = g.one_of([b"new", b"add", b"del", b"has", b"next", b"prev", b"gap"])
+    word = g.one_of([b"new", b"add", b"add", b"del", b"has", b"next", b"prev", b"gap"])
     alone = g.one_of([b"first", b"last", b"list", b"audit"])
     digits = str(g.one_of([0, 5, g.draw(256), g.wild()])).encode()
-    good = word + b"\t" + digits
+    # Where `add` is broken at its word, its serial stands behind it all the same.
+    rest = b"\t" + str(g.serial()).encode() if word == b"add" else b""
+    good = word + b"\t" + digits + rest
     long_one = g.one_of([63, 64, 65, 66, 80, 127, 128, 129, 255, 256, 257, 4096, 5000])
     return g.one_of([
         lambda: b"",
         lambda: word, lambda: word + b"\t", lambda: b"\t" + digits, lambda: b"\t", lambda: digits,
-        lambda: word + b" " + digits, lambda: word + digits,
-        lambda: word + b"\t\t" + digits, lambda: good + b"\t", lambda: good + b"\t" + digits,
+        lambda: word + b" " + digits + rest, lambda: word + digits + rest,
+        lambda: word + b"\t\t" + digits + rest, lambda: good + b"\t", lambda: good + b"\t" + digits,
         lambda: b"\t" + good, lambda: good + b" ", lambda: b" " + good,
-        lambda: word + b"\t " + digits, lambda: word + b" \t" + digits,
+        lambda: word + b" \t" + digits + rest,
         lambda: alone + b" ", lambda: b" " + alone, lambda: alone + b"\t",
-        lambda: alone + b"\t" + digits, lambda: alone + b"\t0",
-        lambda: word + b"\t0" + digits, lambda: word + b"\t00",
-        lambda: word + b"\t" + b"0" * g.draw(12) + b"07",
-        lambda: word + b"\t10000000000", lambda: word + b"\t00000000001",
-        lambda: word + b"\t99999999999", lambda: word + b"\t18446744073709551617",
-        lambda: word + b"\t4294967296", lambda: word + b"\t4294967300",
-        lambda: word + b"\t9999999999", lambda: word + b"\t5000000000",
-        lambda: word + b"\t-1", lambda: word + b"\t+1", lambda: word + b"\t1.0",
-        lambda: word + b"\t0x1", lambda: word + b"\t1_0", lambda: word + b"\t1e1",
-        lambda: word + b"\t1,000", lambda: word + b"\t" + digits + b"a",
-        lambda: word + b"\t:", lambda: word + b"\t/",
+        lambda: alone + b"\t" + digits, lambda: alone + b"\t0", lambda: alone + b"\t" + digits + b"\t5",
+        # Every way to write a number wrongly, for the word and for the serial.
+        lambda: word + b"\t" + wild_number(g, digits) + rest,
+        lambda: word + b"\t" + wild_number(g, digits) + rest,
+        lambda: word + b"\t" + wild_number(g, digits) + rest,
+        lambda: word + b"\t" + wild_number(g, digits) + rest,
+        lambda: b"add\t5\t" + wild_number(g, digits),
+        lambda: b"add\t5\t" + wild_number(g, digits),
+        lambda: b"add\t5\t" + wild_number(g, digits),
+        # One number and three for `add`, two for the others; the two of `add` parted otherwise.
+        lambda: b"add\t" + digits, lambda: b"add\t" + digits + b"\t5\t6",
+        lambda: g.one_of([b"new", b"del", b"has", b"next", b"prev", b"gap"]) + b"\t" + digits + b"\t5",
+        lambda: b"add\t" + digits + g.one_of([b" ", b",", b":", b"\0", b"\r", b"-", b"\t\t", b"\t ", b" \t"]) + b"5",
         lambda: g.one_of([b"size", b"insert", b"erase", b"adds", b"ad", b"dell", b"nex",
-                          b"nextt", b"gaps", b"succ"]) + b"\t" + digits,
+                          b"nextt", b"gaps", b"succ"]) + b"\t" + digits + rest,
         lambda: g.one_of([b"lists", b"lis", b"firs", b"lastt", b"audi", b"key", b"quit", b"#"]),
-        lambda: word.upper() + b"\t" + digits, lambda: word.capitalize() + b"\t" + digits,
+        lambda: word.upper() + b"\t" + digits + rest, lambda: word.capitalize() + b"\t" + digits + rest,
         lambda: alone.upper(), lambda: alone.capitalize(),
         lambda: good + b"\r", lambda: alone + b"\r", lambda: b"\r", lambda: word + b"\t\r",
         lambda: good + b"\0", lambda: b"\0" + good, lambda: b"\0", lambda: alone + b"\0",
-        lambda: word + b"\0" + digits, lambda: word + b"\t" + digits[:1] + b"\0" + digits[1:],
-        lambda: word + b"\t\xb2", lambda: b"\xff", lambda: b"\xc3\xa4dd\t" + digits,
-        lambda: word + b"\t\xd9\xa3", lambda: alone + b"\xa0", lambda: b"\xef\xbb\xbf" + good,
-        lambda: bytes([word[0] + 128]) + word[1:] + b"\t" + digits,
+        lambda: word + b"\0" + digits + rest,
+        lambda: b"\xff", lambda: b"\xc3\xa4dd\t" + digits + rest,
+        lambda: alone + b"\xa0", lambda: b"\xef\xbb\xbf" + good,
+        lambda: bytes([word[0] + 128]) + word[1:] + b"\t" + digits + rest,
         lambda: good + b"\x0b", lambda: good + b"\x0c", lambda: b"\x7f" + alone,
         lambda: bytes(g.one_of([0, 9, 13, 32, 48, 97, 128, 255]) for _ in range(g.draw(70))),
         lambda: good + b" " * (long_one - len(good)),
-        lambda: word + b"\t" + b"0" * (long_one - len(word) - 1 - len(digits)) + digits,
+        lambda: word + b"\t" + b"0" * (long_one - len(word) - 1 - len(digits + rest)) + digits + rest,
+        lambda: good + b"\t" + b"0" * (long_one - len(good) - 2) + b"5",
+        lambda: b"add\t5\t" + b"0" * (long_one - 7) + b"5",
         lambda: word + b"\t" + b"1" * (long_one - len(word) - 1),
         lambda: b"\t" * long_one, lambda: b"\0" * long_one, lambda: b"\xff" * long_one,
-        # What is past byte 64 must not be taken for a line of its own.
+        # What is past byte 64 must not be read as another line.
         lambda: b"x" * g.one_of([63, 64, 65, 128]) + good,
         lambda: b" " * g.one_of([63, 64, 65, 128]) + alone,
         lambda: (good + b"\r") * 400,
@@ -205,19 +237,19 @@ def wild(g):
     for _ in range(500):
         made.append(wild_line(g))
     made.append(op("new", 8))
-    for line in adds(g.shuffled(words)) + mixed(g, 8, words, 320, True):
+    for line in adds(g, g.shuffled(words)) + mixed(g, 8, words, 320, True):
         made += [wild_line(g) for _ in range(g.draw(3))] + [line]
     # Every wild line with its lengths, at the edge of the 64 bytes.
-    for n in (0, 1, 13, 14, 15, 16, 62, 63, 64, 65, 66, 5000):
+    for n in (0, 1, 13, 14, 15, 16, 24, 25, 26, 62, 63, 64, 65, 66, 5000):
         for byte in (b"\0", b" ", b"0", b"a", b"\xff"):
-            made += [byte * n, b"add\t5"[:n] + byte * (n - 5), op("list")]
+            made += [byte * n, b"add\t5\t6"[:n] + byte * (n - 7), op("list")]
     # The last line is empty, and a line all the same: it has its byte 10.
     return made + [b""]
 
 
 def no_end(g):
     """A short file whose last line has no byte 10 and is read all the same."""
-    return mixed(g, 8, [1, 2, 3], 20, True) + [op("new", 8), op("add", 7), b"", op("list")]
+    return mixed(g, 8, [1, 2, 3], 20, True) + [op("new", 8), op("add", 7, 70), b"", op("list"), op("has", 7)]
 
 
 HERE = os.path.dirname(os.path.abspath(__file__))
@@ -229,44 +261,60 @@ def edges(g):
     with open(os.path.join(HERE, "edges.txt"), "rb") as f:
         made = f.read().splitlines()
     for n in (254, 255, 256, 257, 258, 600):
-        made += [b"word\t0" + b"\t4" * (n // 2 - 3) + b" " * (n % 2), b"table\t3" + b" " * (n - 7), b"#" * n, b"audit"]
+        made += [b"word\t0" + b"\t4" * (n // 2 - 3) + b" " * (n % 2), b"table\t4" + b" " * (n - 7), b"#" * n, b"audit"]
     return made + [b"table\t125", b"word\t0" + b"\t4" * 125, b"audit"]
 
 
 def setting(table):
-    """Lines that set a table, six rows to each."""
+    """Lines that set a table, five rows to each; six of wild words could have more than 256 bytes."""
     made = [op("table", len(table))]
-    for at in range(0, len(table), 18):
-        made.append("\t".join(map(str, ["word", at] + table[at:at + 18])).encode())
+    for at in range(0, len(table), 20):
+        made.append(op("word", at, *table[at:at + 20]))
+    return made
+
+
+def telling(g, header, table, calls):
+    """Leaves out most calls that answer 2 or 3: those answers are all alike, and the gate compares no more than 1 MiB."""
+    refused = pretree.bad_header(table, header)
+    made = []
+    for call in calls:
+        too_wide = not refused and len(call) > 1 and call[1] >= 2 ** header[0]
+        if call[0] == "new" or g.draw(5 if refused else 3 if too_wide else 1) == 0:
+            made.append(call)
     return made
 
 
 def damaged(g):
     """Every call on tables of every kind of damage, and then some calls one after the other."""
     made = []
-    for kind, header, table, room, apart, after in tables(g.wild(), 46 * KINDS):
-        made += [f"# damage of kind {kind}".encode(), "\t".join(map(str, ("header",) + header)).encode()]
+    for kind, header, table, room, apart, after in tables(g.wild(), 43 * KINDS):
+        apart = telling(g, header, table, apart)
+        made += [f"# damage of kind {kind}".encode(), op("header", *header)]
         made += setting(table) + [op("buffer", room)]
         made += [op("fresh")] + [op(*call) for call in apart]
         made += [op("keep")] + [op(*call) for call in after]
     return made
 
 
+def documents_example(g):
+    return example.tabs(example.GIVEN).splitlines()
+
+
 def some_setting(g):
     """A line that sets something, with numbers that have a place and numbers that have none."""
-    number = g.one_of([0, 1, 2, 3, 11, 12, 13, g.draw(40), 65536, 65537, 196609, g.wild()])
+    number = g.one_of([0, 1, 3, 4, 15, 16, 17, g.draw(40), 65536, 65537, 262145, g.wild()])
     few = [g.one_of([g.draw(16), g.draw(16), g.wild()]) for _ in range(1 + g.draw(9))]
-    return b"\t".join(str(field).encode() for field in g.one_of([
+    return op(*g.one_of([
         ["header", g.draw(34), g.draw(6)], ["header", 4, number], ["header", number], ["header"] + few,
-        ["table", g.draw(40)], ["table", number], ["table", 12, number], ["table"],
-        ["word", g.draw(12)] + few, ["word", number] + few, ["word", g.draw(12)], ["word"],
+        ["table", g.draw(40)], ["table", number], ["table", 16, number], ["table"],
+        ["word", g.draw(16)] + few, ["word", number] + few, ["word", g.draw(16)], ["word"],
         ["buffer", g.draw(12)], ["buffer", number], ["buffer"], ["keep"], ["fresh"], ["keep", number], ["fresh", 0],
     ]))
 
 
 def wild_settings(g):
     """Lines of the runner by chance, among them lines that are not read."""
-    made = [op("table", 12), op("new", 4)]
+    made = [op("table", 16), op("new", 4)]
     for _ in range(1000):
         p = g.draw(8)
         if p < 2:
@@ -287,6 +335,7 @@ FILES = [
         new_in_the_middle, wild, no_end,
     ], False, lines.run),
     ("raw", [edges, damaged, wild_settings], False, raw.run),
+    ("bench", [documents_example], True, lines.run),
 ]
 
 

@@ -1,16 +1,17 @@
-// The line language over std::set, for comparison with the line program. docs/FORMAT.md describes the language.
+// The line language over std::map, for comparison with the line program. docs/FORMAT.md describes the language.
 //
 //     lines plain     reads with std::getline and writes to std::cout
 //     lines tuned     reads pieces of 64 KiB with fread, and writes numbers with std::to_chars into a buffer
 //
-// The replies are those of the line program, with two exceptions: both row counts are 0, because a std::set has no rows, and `audit` always
+// The replies are those of the line program, with two exceptions: both row counts are 0, because a std::map has no rows, and `audit` always
 // answers 0.
 #include <charconv>
 #include <cstdint>
 #include <cstdio>
 #include <cstring>
 #include <iostream>
-#include <set>
+#include <map>
+#include <optional>
 #include <string>
 #include <string_view>
 #include <vector>
@@ -41,23 +42,30 @@ struct Buffer {
 };
 
 template <class Out> struct Session {
-    std::set<uint32_t> set;
+    std::map<uint32_t, uint32_t> map; // from a word to its serial
     uint32_t width = 0;
     uint64_t line = 0;
     Out out;
 
-    void reply(unsigned answer, bool has_key = false, uint32_t key = 0)
+    void field(std::optional<uint32_t> number)
     {
-        out.room(64);
+        if (number)
+            out.number(*number);
+        else
+            out.put('-');
+    }
+
+    void reply(unsigned answer, std::optional<uint32_t> key = {}, std::optional<uint32_t> serial = {})
+    {
+        out.room(80);
         out.number(line);
         out.put('\t');
         out.number(answer);
         out.put('\t');
-        if (has_key)
-            out.number(key);
-        else
-            out.put('-');
-        out.put("\t0\t0\n");
+        field(key);
+        out.put("\t0\t0\t");
+        field(serial);
+        out.put('\n');
     }
 
     // "A number is 1 to 10 digits, no leading zero but for 0 itself, at most 4,294,967,295."
@@ -78,8 +86,15 @@ template <class Out> struct Session {
             return reply(9);
         if (tab == std::string_view::npos)
             return alone(word);
-        uint32_t k;
-        if (!read(text.substr(tab + 1), k))
+        text.remove_prefix(tab + 1);
+        uint32_t k, serial;
+        if (word == "add") {
+            tab = text.find('\t');
+            if (tab == std::string_view::npos || !read(text.substr(0, tab), k) || !read(text.substr(tab + 1), serial))
+                return reply(9);
+            return add(k, serial);
+        }
+        if (!read(text, k))
             return reply(9);
         numbered(word, k);
     }
@@ -95,7 +110,7 @@ template <class Out> struct Session {
             return reply(0);
         if (list) {
             reply(0);
-            for (uint32_t k : set) {
+            for (auto &[k, serial] : map) {
                 out.room(64);
                 out.put("key\t");
                 out.number(k);
@@ -103,9 +118,29 @@ template <class Out> struct Session {
             }
             return;
         }
-        if (set.empty())
+        if (map.empty())
             return reply(8);
-        reply(0, true, first ? *set.begin() : *set.rbegin());
+        reply(0, first ? map.begin()->first : map.rbegin()->first);
+    }
+
+    // judges a word by the width; a word that may not be asked for is answered here
+    bool refused(uint32_t k)
+    {
+        if (width == 0)
+            return reply(2), true;
+        if (uint64_t(k) >> width != 0)
+            return reply(3), true;
+        return false;
+    }
+
+    // document 02 §1: "An `add` of a word already there still answers 7, but now stores the new serial."
+    void add(uint32_t k, uint32_t serial)
+    {
+        if (refused(k))
+            return;
+        if (map.size() == capacity && map.count(k) == 0)
+            return reply(5);
+        reply(map.insert_or_assign(k, serial).second ? 0 : 7);
     }
 
     void numbered(std::string_view word, uint32_t k)
@@ -113,43 +148,38 @@ template <class Out> struct Session {
         if (word == "new") {
             if (k == 0 || k > 32)
                 return reply(1);
-            set.clear();
+            map.clear();
             width = k;
             return reply(0);
         }
-        bool has = word == "has", add = word == "add", del = word == "del", next = word == "next", prev = word == "prev", gap = word == "gap";
-        if (!has && !add && !del && !next && !prev && !gap)
+        bool has = word == "has", del = word == "del", next = word == "next", prev = word == "prev", gap = word == "gap";
+        if (!has && !del && !next && !prev && !gap)
             return reply(9);
-        if (width == 0)
-            return reply(2);
-        if (uint64_t(k) >> width != 0)
-            return reply(3);
-        if (has)
-            return reply(set.count(k) != 0 ? 0 : 8);
+        if (refused(k))
+            return;
+        if (has) {
+            auto i = map.find(k);
+            return i == map.end() ? reply(8) : reply(0, {}, i->second);
+        }
         if (del)
-            return reply(set.erase(k) != 0 ? 0 : 8);
-        if (add) {
-            if (set.size() == capacity)
-                return reply(set.count(k) != 0 ? 7 : 5);
-            return reply(set.insert(k).second ? 0 : 7);
-        }
+            return reply(map.erase(k) != 0 ? 0 : 8);
         if (next) {
-            auto i = set.upper_bound(k);
-            return i == set.end() ? reply(8) : reply(0, true, *i);
+            auto i = map.upper_bound(k);
+            return i == map.end() ? reply(8) : reply(0, i->first);
         }
-        auto i = set.lower_bound(k);
-        bool some_above = i != set.end(), some_below = i != set.begin();
+        auto i = map.lower_bound(k);
+        bool some_above = i != map.end(), some_below = i != map.begin();
         if (prev)
-            return some_below ? reply(0, true, *--i) : reply(8);
+            return some_below ? reply(0, (--i)->first) : reply(8);
         if (!some_above && !some_below)
             return reply(8);
-        uint32_t distance = some_above ? *i - k : UINT32_MAX;
+        uint32_t distance = some_above ? i->first - k : UINT32_MAX;
         if (some_below && distance != 0) {
-            uint32_t below = k - *--i;
+            uint32_t below = k - (--i)->first;
             if (below < distance)
                 distance = below;
         }
-        reply(0, true, distance);
+        reply(0, distance);
     }
 };
 

@@ -16,15 +16,15 @@
 #include <cstdio>
 #include <cstdlib>
 #include <cstring>
+#include <map>
 #include <random>
-#include <set>
 #include <string>
 #include <tuple>
 #include <unordered_set>
 #include <vector>
 
 #ifdef HAVE_ABSL
-#include <absl/container/btree_set.h>
+#include <absl/container/btree_map.h>
 #endif
 #ifdef HAVE_JUDY
 #include <Judy.h>
@@ -47,9 +47,10 @@ using Words = std::vector<uint32_t>;
 
 // ---- The sets ----
 
+// The value is the key, for `has` the serial, and 0 where there is none.
 struct Answer {
-    uint32_t number, key;
-    bool operator==(const Answer &other) const { return number == other.number && key == other.key; }
+    uint32_t number, value;
+    bool operator==(const Answer &other) const { return number == other.number && value == other.value; }
 };
 
 struct Proved {
@@ -76,19 +77,23 @@ template <class Calls> struct Table {
     Reply reply{};
 
     Answer told() const { return {reply.answer, reply.key}; }
+    Answer told_serial() const { return {reply.answer, reply.serial}; }
     void renew(uint32_t width) { Calls::renew(reply.width, reply.count, table.data(), table.size(), width, &reply); }
     void build(const Words &words, size_t capacity, uint32_t width = 32)
     {
-        table.assign(3 * capacity, 1);
+        table.assign(ROW * capacity, 1);
         renew(width);
-        for (uint32_t word : words)
-            add(word);
+        for (size_t i = 0; i < words.size(); i++)
+            add(words[i], i);
     }
-    Answer has(uint32_t k) { return Calls::has(reply.width, reply.count, table.data(), table.size(), k, &reply), told(); }
+    Answer has(uint32_t k) { return Calls::has(reply.width, reply.count, table.data(), table.size(), k, &reply), told_serial(); }
     Answer next(uint32_t k) { return Calls::next(reply.width, reply.count, table.data(), table.size(), k, &reply), told(); }
     Answer prev(uint32_t k) { return Calls::prev(reply.width, reply.count, table.data(), table.size(), k, &reply), told(); }
     Answer gap(uint32_t k) { return Calls::gap(reply.width, reply.count, table.data(), table.size(), k, &reply), told(); }
-    Answer add(uint32_t k) { return Calls::add(reply.width, reply.count, table.data(), table.size(), k, &reply), told(); }
+    Answer add(uint32_t k, uint32_t serial)
+    {
+        return Calls::add(reply.width, reply.count, table.data(), table.size(), k, serial, &reply), told();
+    }
     Answer del(uint32_t k) { return Calls::del(reply.width, reply.count, table.data(), table.size(), k, &reply), told(); }
     Answer first() { return Calls::first(reply.width, reply.count, table.data(), table.size(), &reply), told(); }
     Answer last() { return Calls::last(reply.width, reply.count, table.data(), table.size(), &reply), told(); }
@@ -112,106 +117,127 @@ static Answer nearer(bool some_below, uint32_t below, bool some_above, uint32_t 
     return {DONE, std::min(k - below, above - k)};
 }
 
-// std::set and absl::btree_set
-template <class Set> struct Ordered {
+// std::map and absl::btree_map, from a word to its serial
+template <class Map> struct Ordered {
     static constexpr bool is_table = false;
-    Set set;
+    Map map;
 
     void build(const Words &words, size_t, uint32_t = 32)
     {
-        set.clear();
-        for (uint32_t word : words)
-            set.insert(word);
+        map.clear();
+        for (size_t i = 0; i < words.size(); i++)
+            add(words[i], i);
     }
-    Answer at(typename Set::iterator i) { return i == set.end() ? Answer{NO_SUCH_WORD, 0} : Answer{DONE, *i}; }
-    Answer has(uint32_t k) { return {set.find(k) == set.end() ? NO_SUCH_WORD : DONE, 0}; }
-    Answer next(uint32_t k) { return at(set.upper_bound(k)); }
+    Answer at(typename Map::iterator i) { return i == map.end() ? Answer{NO_SUCH_WORD, 0} : Answer{DONE, i->first}; }
+    Answer has(uint32_t k)
+    {
+        auto i = map.find(k);
+        return i == map.end() ? Answer{NO_SUCH_WORD, 0} : Answer{DONE, i->second};
+    }
+    Answer next(uint32_t k) { return at(map.upper_bound(k)); }
     Answer prev(uint32_t k)
     {
-        auto i = set.lower_bound(k);
-        return i == set.begin() ? Answer{NO_SUCH_WORD, 0} : Answer{DONE, *--i};
+        auto i = map.lower_bound(k);
+        return i == map.begin() ? Answer{NO_SUCH_WORD, 0} : Answer{DONE, (--i)->first};
     }
     Answer gap(uint32_t k)
     {
-        auto above = set.lower_bound(k);
-        if (above != set.end() && *above == k)
+        auto above = map.lower_bound(k);
+        if (above != map.end() && above->first == k)
             return {DONE, 0};
-        bool some_above = above != set.end(), some_below = above != set.begin();
-        uint32_t upper = some_above ? *above : 0, lower = some_below ? *--above : 0;
+        bool some_above = above != map.end(), some_below = above != map.begin();
+        uint32_t upper = some_above ? above->first : 0, lower = some_below ? (--above)->first : 0;
         return nearer(some_below, lower, some_above, upper, k);
     }
-    Answer first() { return at(set.begin()); }
-    Answer last() { return set.empty() ? Answer{NO_SUCH_WORD, 0} : Answer{DONE, *set.rbegin()}; }
-    Answer add(uint32_t k) { return {set.insert(k).second ? DONE : ALREADY_THERE, 0}; }
-    Answer del(uint32_t k) { return {set.erase(k) != 0 ? DONE : NO_SUCH_WORD, 0}; }
-    size_t list(Words &to) { return std::copy(set.begin(), set.end(), to.begin()) - to.begin(); }
+    Answer first() { return at(map.begin()); }
+    Answer last() { return map.empty() ? Answer{NO_SUCH_WORD, 0} : Answer{DONE, map.rbegin()->first}; }
+    Answer add(uint32_t k, uint32_t serial) { return {map.insert_or_assign(k, serial).second ? DONE : ALREADY_THERE, 0}; }
+    Answer del(uint32_t k) { return {map.erase(k) != 0 ? DONE : NO_SUCH_WORD, 0}; }
+    size_t list(Words &to)
+    {
+        size_t n = 0;
+        for (auto &[word, serial] : map)
+            to[n++] = word;
+        return n;
+    }
 };
 
-struct StdSet : Ordered<std::set<uint32_t>> {
-    static constexpr const char *name = "std::set";
+struct StdMap : Ordered<std::map<uint32_t, uint32_t>> {
+    static constexpr const char *name = "std::map";
 };
 
 #ifdef HAVE_ABSL
-struct BtreeSet : Ordered<absl::btree_set<uint32_t>> {
-    static constexpr const char *name = "absl::btree_set";
+struct BtreeMap : Ordered<absl::btree_map<uint32_t, uint32_t>> {
+    static constexpr const char *name = "absl::btree_map";
 };
 #endif
 
 #ifdef HAVE_JUDY
+// The value of a word is its serial plus 1: JudyL gives a new word the value 0, and so a new word is told from one already there.
 struct Judy {
-    static constexpr const char *name = "Judy1";
+    static constexpr const char *name = "JudyL";
     static constexpr bool is_table = false;
-    Pvoid_t set = nullptr;
+    Pvoid_t map = nullptr;
 
-    ~Judy() { Judy1FreeArray(&set, PJE0); }
+    ~Judy() { JudyLFreeArray(&map, PJE0); }
     void build(const Words &words, size_t, uint32_t = 32)
     {
-        Judy1FreeArray(&set, PJE0);
-        for (uint32_t word : words)
-            Judy1Set(&set, word, PJE0);
+        JudyLFreeArray(&map, PJE0);
+        for (size_t i = 0; i < words.size(); i++)
+            add(words[i], i);
     }
-    static Answer at(int found, Word_t k) { return found ? Answer{DONE, uint32_t(k)} : Answer{NO_SUCH_WORD, 0}; }
-    Answer has(uint32_t k) { return {Judy1Test(set, k, PJE0) ? DONE : NO_SUCH_WORD, 0}; }
+    static Answer at(PPvoid_t found, Word_t k) { return found != nullptr ? Answer{DONE, uint32_t(k)} : Answer{NO_SUCH_WORD, 0}; }
+    Answer has(uint32_t k)
+    {
+        auto value = reinterpret_cast<Word_t *>(JudyLGet(map, k, PJE0));
+        return value == nullptr ? Answer{NO_SUCH_WORD, 0} : Answer{DONE, uint32_t(*value - 1)};
+    }
     Answer next(uint32_t word)
     {
         Word_t k = word;
-        int found = Judy1Next(set, &k, PJE0);
+        auto found = JudyLNext(map, &k, PJE0);
         return at(found, k);
     }
     Answer prev(uint32_t word)
     {
         Word_t k = word;
-        int found = Judy1Prev(set, &k, PJE0);
+        auto found = JudyLPrev(map, &k, PJE0);
         return at(found, k);
     }
     Answer gap(uint32_t word)
     {
         Word_t above = word, below = word;
-        bool some_above = Judy1First(set, &above, PJE0);
+        bool some_above = JudyLFirst(map, &above, PJE0) != nullptr;
         if (some_above && above == word)
             return {DONE, 0};
-        bool some_below = Judy1Prev(set, &below, PJE0);
+        bool some_below = JudyLPrev(map, &below, PJE0) != nullptr;
         return nearer(some_below, below, some_above, above, word);
     }
     Answer first()
     {
         Word_t k = 0;
-        int found = Judy1First(set, &k, PJE0);
+        auto found = JudyLFirst(map, &k, PJE0);
         return at(found, k);
     }
     Answer last()
     {
         Word_t k = -1;
-        int found = Judy1Last(set, &k, PJE0);
+        auto found = JudyLLast(map, &k, PJE0);
         return at(found, k);
     }
-    Answer add(uint32_t k) { return {Judy1Set(&set, k, PJE0) ? DONE : ALREADY_THERE, 0}; }
-    Answer del(uint32_t k) { return {Judy1Unset(&set, k, PJE0) ? DONE : NO_SUCH_WORD, 0}; }
+    Answer add(uint32_t k, uint32_t serial)
+    {
+        auto value = reinterpret_cast<Word_t *>(JudyLIns(&map, k, PJE0));
+        bool fresh = *value == 0;
+        *value = Word_t(serial) + 1;
+        return {fresh ? DONE : ALREADY_THERE, 0};
+    }
+    Answer del(uint32_t k) { return {JudyLDel(&map, k, PJE0) ? DONE : NO_SUCH_WORD, 0}; }
     size_t list(Words &to)
     {
         size_t n = 0;
         Word_t k = 0;
-        for (int found = Judy1First(set, &k, PJE0); found; found = Judy1Next(set, &k, PJE0))
+        for (auto found = JudyLFirst(map, &k, PJE0); found != nullptr; found = JudyLNext(map, &k, PJE0))
             to[n++] = uint32_t(k);
         return n;
     }
@@ -221,62 +247,80 @@ struct Judy {
 struct Sorted {
     static constexpr const char *name = "sorted array";
     static constexpr bool is_table = false;
-    Words set;
+    struct Pair {
+        uint32_t word, serial;
+    };
+    using Pairs = std::vector<Pair>;
+    Pairs pairs;
 
     void build(const Words &words, size_t capacity, uint32_t = 32)
     {
-        set = words;
-        set.reserve(capacity);
-        std::sort(set.begin(), set.end());
+        pairs.clear();
+        pairs.reserve(capacity);
+        for (size_t i = 0; i < words.size(); i++)
+            pairs.push_back({words[i], uint32_t(i)});
+        std::sort(pairs.begin(), pairs.end(), [](const Pair &a, const Pair &b) { return a.word < b.word; });
     }
-    Words::iterator from(uint32_t k) { return std::lower_bound(set.begin(), set.end(), k); }
+    Pairs::iterator from(uint32_t k)
+    {
+        return std::lower_bound(pairs.begin(), pairs.end(), k, [](const Pair &pair, uint32_t k) { return pair.word < k; });
+    }
+    bool holds(Pairs::iterator i, uint32_t k) { return i != pairs.end() && i->word == k; }
     Answer has(uint32_t k)
     {
         auto i = from(k);
-        return {i != set.end() && *i == k ? DONE : NO_SUCH_WORD, 0};
+        return holds(i, k) ? Answer{DONE, i->serial} : Answer{NO_SUCH_WORD, 0};
     }
     Answer next(uint32_t k)
     {
-        auto i = std::upper_bound(set.begin(), set.end(), k);
-        return i == set.end() ? Answer{NO_SUCH_WORD, 0} : Answer{DONE, *i};
+        auto i = std::upper_bound(pairs.begin(), pairs.end(), k, [](uint32_t k, const Pair &pair) { return k < pair.word; });
+        return i == pairs.end() ? Answer{NO_SUCH_WORD, 0} : Answer{DONE, i->word};
     }
     Answer prev(uint32_t k)
     {
         auto i = from(k);
-        return i == set.begin() ? Answer{NO_SUCH_WORD, 0} : Answer{DONE, i[-1]};
+        return i == pairs.begin() ? Answer{NO_SUCH_WORD, 0} : Answer{DONE, i[-1].word};
     }
     Answer gap(uint32_t k)
     {
         auto i = from(k);
-        bool some_above = i != set.end(), some_below = i != set.begin();
-        if (some_above && *i == k)
+        if (holds(i, k))
             return {DONE, 0};
-        return nearer(some_below, some_below ? i[-1] : 0, some_above, some_above ? *i : 0, k);
+        bool some_above = i != pairs.end(), some_below = i != pairs.begin();
+        return nearer(some_below, some_below ? i[-1].word : 0, some_above, some_above ? i->word : 0, k);
     }
-    Answer first() { return set.empty() ? Answer{NO_SUCH_WORD, 0} : Answer{DONE, set.front()}; }
-    Answer last() { return set.empty() ? Answer{NO_SUCH_WORD, 0} : Answer{DONE, set.back()}; }
-    Answer add(uint32_t k)
+    Answer first() { return pairs.empty() ? Answer{NO_SUCH_WORD, 0} : Answer{DONE, pairs.front().word}; }
+    Answer last() { return pairs.empty() ? Answer{NO_SUCH_WORD, 0} : Answer{DONE, pairs.back().word}; }
+    Answer add(uint32_t k, uint32_t serial)
     {
         auto i = from(k);
-        if (i != set.end() && *i == k)
+        if (holds(i, k)) {
+            i->serial = serial;
             return {ALREADY_THERE, 0};
-        set.insert(i, k);
+        }
+        pairs.insert(i, {k, serial});
         return {DONE, 0};
     }
     Answer del(uint32_t k)
     {
         auto i = from(k);
-        if (i == set.end() || *i != k)
+        if (!holds(i, k))
             return {NO_SUCH_WORD, 0};
-        set.erase(i);
+        pairs.erase(i);
         return {DONE, 0};
     }
-    size_t list(Words &to) { return std::copy(set.begin(), set.end(), to.begin()) - to.begin(); }
+    size_t list(Words &to)
+    {
+        size_t n = 0;
+        for (const Pair &pair : pairs)
+            to[n++] = pair.word;
+        return n;
+    }
 };
 
-using Sets = std::tuple<Table<Proved>, Table<Plain>, StdSet
+using Sets = std::tuple<Table<Proved>, Table<Plain>, StdMap
 #ifdef HAVE_ABSL
-    , BtreeSet
+    , BtreeMap
 #endif
 #ifdef HAVE_JUDY
     , Judy
@@ -293,32 +337,36 @@ template <class F> static void each(Sets &sets, F f)
 #define CALL(Type, call) \
     struct Type { \
         static constexpr const char *name = #call; \
-        template <class Set> static Answer of(Set &set, uint32_t k) { return set.call(k); } \
+        template <class Set> static Answer of(Set &set, uint32_t k, uint32_t) { return set.call(k); } \
     }
 #define CALL_ALONE(Type, call) \
     struct Type { \
         static constexpr const char *name = #call; \
-        template <class Set> static Answer of(Set &set, uint32_t) { return set.call(); } \
+        template <class Set> static Answer of(Set &set, uint32_t, uint32_t) { return set.call(); } \
     }
 CALL(Has, has);
 CALL(Next, next);
 CALL(Prev, prev);
 CALL(Gap, gap);
-CALL(Add, add);
 CALL(Del, del);
 CALL_ALONE(First, first);
 CALL_ALONE(Last, last);
 CALL_ALONE(Audit, audit);
 
+struct Add {
+    static constexpr const char *name = "add";
+    template <class Set> static Answer of(Set &set, uint32_t k, uint32_t serial) { return set.add(k, serial); }
+};
+
 struct New {
     static constexpr const char *name = "new";
-    template <class Set> static Answer of(Set &set, uint32_t) { return set.renew(32), set.told(); }
+    template <class Set> static Answer of(Set &set, uint32_t, uint32_t) { return set.renew(32), set.told(); }
 };
 
 struct List {
     static constexpr const char *name = "list";
     static inline Words to = Words(65535);
-    template <class Set> static Answer of(Set &set, uint32_t) { return {DONE, uint32_t(set.list(to))}; }
+    template <class Set> static Answer of(Set &set, uint32_t, uint32_t) { return {DONE, uint32_t(set.list(to))}; }
 };
 
 // ---- The meter ----
@@ -345,13 +393,13 @@ struct Meter {
     {
         uint64_t sum = 0;
         for (size_t i = 0; i < n; i++) {
-            Answer a = Call::of(set, words[i]);
-            sum += a.number * 1000003u + a.key;
+            Answer a = Call::of(set, words[i], i);
+            sum += a.number * 1000003u + a.value;
             asm volatile("" ::: "memory"); // keeps the compiler from leaving out a call whose answer it could reuse
         }
         answers += sum;
     }
-    // `n` calls, measured; call i gets words[i]
+    // `n` calls, measured; call i gets words[i] and, where it is `add`, a serial
     template <class Call, class Set> void metered(Set &set, const uint32_t *words, size_t n)
     {
         calls += n;
@@ -373,7 +421,7 @@ struct Meter {
     template <class Call, class Set> void unmetered(Set &set, const uint32_t *words, size_t n)
     {
         for (size_t i = 0; i < n; i++) {
-            Call::of(set, words[i]);
+            Call::of(set, words[i], i);
             if constexpr (Set::is_table)
                 rows += set.reply.rows + set.reply.moved;
         }
@@ -546,10 +594,11 @@ static size_t compared(uint32_t width, size_t capacity, size_t calls, uint32_t s
         words.push_back(random() & most);
     auto same = [&](auto call, uint32_t k) {
         using Call = decltype(call);
-        Answer expected = Call::of(proved, k);
+        uint32_t serial = random();
+        Answer expected = Call::of(proved, k, serial);
         each(sets, [&](auto &set) {
             bool is_proved = static_cast<void *>(&set) == static_cast<void *>(&proved);
-            if (!is_proved && !(Call::of(set, k) == expected))
+            if (!is_proved && !(Call::of(set, k, serial) == expected))
                 differ(said(Call::name, k, width, set.name));
         });
         if (memcmp(&proved.reply, &plain.reply, sizeof(Reply)) != 0)
@@ -572,7 +621,7 @@ static size_t compared(uint32_t width, size_t capacity, size_t calls, uint32_t s
             break;
         case 9: case 10: same(Del{}, k); break;
         default:
-            if (!(Audit::of(proved, 0) == Audit::of(plain, 0)) || proved.reply.answer != DONE)
+            if (!(proved.audit() == plain.audit()) || proved.reply.answer != DONE)
                 differ(said("audit", 0, width, "library and C"));
             std::vector<Words> lists;
             each(sets, [&](auto &set) {

@@ -240,7 +240,7 @@ module _ (h : Header) (table : List ℕ) (S : List Entry) (H : Holding h table S
         ap (λ x. rowAt x (h .count) .entry .key) table-after
         ∙ ap (λ r. r .entry .key) (row-written (h .count) (hooked-table room) (fits room) (last-row room))
 
-  present-is : a .present ≡ ends-at k w
+  pub present-is : a .present ≡ ends-at k w
   unfolding adding
   present-is = by-cases (ends-at k w)
     where
@@ -248,11 +248,11 @@ module _ (h : Header) (table : List ℕ) (S : List Entry) (H : Holding h table S
       by-cases true = refl
       by-cases false = refl
 
-  same-long : length after-add ≡ length table
+  pub same-long : length after-add ≡ length table
   same-long = added-kept h table new-entry (suc (h .count)) (omega arith) .same-length
 
   module _ (small : leb (2 ^ h .width) k ≡ false) where
-    present-so : a .present ≡ isThere (lookup k S)
+    pub present-so : a .present ≡ isThere (lookup k S)
     present-so =
         adding-present (h .width) 0 0 new-entry t (narrow h k small) (proper H) ∙ ap (λ es. isThere (lookup k es)) (holds-entries H)
 
@@ -300,14 +300,14 @@ module _ (h : Header) (table : List ℕ) (S : List Entry) (H : Holding h table S
                 (ap entries add-shows ∙ new-entries) new-number;
           }
 
-  abbrev outcome : Bool → Bool → Bool → Outcome
+  abbrev pub outcome : Bool → Bool → Bool → Outcome
   outcome wide there full =
       if wide then record { reply = refused h WordTooWide; table = table }
-      else if there then record { reply = answered h AlreadyThere (rows (a .rows-read)); table = table }
+      else if there then record { reply = answered h AlreadyThere (rows (a .rows-read)); table = taking (a .takes) table }
       else if full then record { reply = refused h Full; table = table }
       else record { reply = answered more Done (rows (a .rows-read)); table = after-add }
 
-  outcome-so : addOutcome h table new-entry ≡ outcome (leb (2 ^ h .width) k) (a .present) (eqb (h .count) (capacity table))
+  pub outcome-so : addOutcome h table new-entry ≡ outcome (leb (2 ^ h .width) k) (a .present) (eqb (h .count) (capacity table))
   unfolding addOutcome too-wide
   outcome-so = rw (H .right-header, adding-unbroken (h .width) t (undamaged H) new-entry)
 
@@ -325,44 +325,3 @@ module _ (h : Header) (table : List ℕ) (S : List Entry) (H : Holding h table S
         ap (λ o. rowAt (o .table) (pred (o .reply .header .count)) .entry .key) done-so
         ∙ new-row-told (absent small not-there not-full) (room-left small not-there not-full)
         ∙ ap (λ ss. left-over new-entry ss .key) (nothing-pushed k (h .width) t (rw (holds-entries H) greatest))
-
--- `add` of the word k
-module _ (h : Header) (table : List ℕ) (S : List Entry) (H : Holding h table S) (k : ℕ) where
-  abbrev new : Entry
-  new = entryFor k
-
-  pub keeps-add : (buffer : List ℕ) → KeepsDictionary after (Add k) h table buffer S
-  unfolding after expected kept-after changed numberOf keyOf
-  keeps-add buffer =
-      rw (outcome-so h table S H new)
-      (by-width (leb (2 ^ h .width) k) refl (a h table S H new .present) (λ small. present-so h table S H new small))
-    where
-      said : Bool → Bool → Bool → Said
-      said wide there full = if wide then only 3 else if there then only 7 else if full then only 5 else only 0
-
-      kept : Said → Kept
-      kept answer = if eqb (answer .number) 0 then record { width = h .width; set = insert new S; buffer = buffer } else keptBy h S buffer
-
-      left-by : Outcome → After
-      left-by o = record { reply = o .reply; table = o .table; buffer = buffer }
-
-      by-room : (small : leb (2 ^ h .width) k ≡ false) (there : Bool) → isThere (lookup k S) ≡ there
-          → (full : Bool) → eqb (h .count) (capacity table) ≡ full
-          → Keeps (said false there full) (kept (said false there full)) table (left-by (outcome h table S H new false there full))
-      by-room small true is full how =
-          nothing-changed h table buffer S H (answered h AlreadyThere (rows (a h table S H new .rows-read))) (only 7) refl refl
-      by-room small false is true how = nothing-changed h table buffer S H (refused h Full) (only 5) refl refl
-      by-room small false is false how =
-          record {
-            answer = refl;
-            width = refl;
-            held = add-held h table S H new small is how;
-            written = refl;
-            same-length = same-long h table S H new;
-          }
-
-      by-width : (wide : Bool) → leb (2 ^ h .width) k ≡ wide → (there : Bool) → (leb (2 ^ h .width) k ≡ false → there ≡ isThere (lookup k S))
-          → let answer : Said = said wide (isThere (lookup k S)) (eqb (length S) (capacity table)) in
-          Keeps answer (kept answer) table (left-by (outcome h table S H new wide there (eqb (h .count) (capacity table))))
-      by-width true e there so = nothing-changed h table buffer S H (refused h WordTooWide) (only 3) refl refl
-      by-width false e there so = rw (so e, H .holds .number) (by-room e (isThere (lookup k S)) refl (eqb (h .count) (capacity table)) refl)

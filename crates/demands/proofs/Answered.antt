@@ -1,7 +1,7 @@
 -- Demand 2 of the calls that write no row: `has`, `next`, `prev`, `gap`, `first`, `last`, `audit`, `list`; and of `new`.
 use Prim.Native.Nat.{ℕ, _*_, _/_, _^_}
 use mathlib.Core.Path.{_≡_, refl, sym, ap, _∙_}
-use mathlib.Core.Bool.{Bool, true, false}
+use mathlib.Core.Bool.{Bool, true, false, _||_}
 use mathlib.Core.List.{List, [], _++_}
 use native.Mathlib.Omega.{arith}
 use lib.Dec.{ltb, leb, eqb}
@@ -20,27 +20,27 @@ use Rattle.pretree.specs.declared.Header.{Header}
 use Rattle.pretree.specs.declared.Answer.{Answer}
 use Rattle.pretree.specs.declared.Answer.the-variants.{Done, Distance, WrongWidth, WordTooWide, ShortBuffer}
 use Rattle.pretree.specs.declared.Reply.{Reply}
-use Rattle.pretree.specs.Answer.{numberOf, keyOf}
+use Rattle.pretree.specs.Answer.{numberOf, keyOf, serialOf}
 use Rattle.pretree.specs.Table.{rowWords, capacity}
 use Rattle.pretree.specs.Unfold.{shown}
 use Rattle.pretree.specs.Reply.{fresh, wrong-width, wrong-header, too-wide, refused, answered}
-use Rattle.pretree.specs.Find.{saying, done, word as say-word, read-reply, hasReply, nextReply, prevReply, gapReply, firstReply, lastReply}
+use Rattle.pretree.specs.Find.{saying, serial as say-serial, word as say-word, read-reply, hasReply, nextReply, prevReply, gapReply, firstReply, lastReply}
 use Rattle.pretree.specs.Whole.{newReply, newTable, auditReply, listReply, listBuffer}
 use Rattle.pretree.specs.declared.Call.{Call}
 use Rattle.pretree.specs.declared.Call.the-variants.{New, Has, Next, Prev, Gap, First, Last, Audit}
 use Rattle.pretree.specs.Call.{After, after}
-use Rattle.demands.specs.Expected.{Said, Kept, only, word, expected, changed, kept-after}
+use Rattle.demands.specs.Expected.{found, Said, Kept, only, word, expected, changed, kept-after}
 use Rattle.demands.specs.Demand2.{Holding, saidIn, Keeps, keptBy, KeepsDictionary}
 use Rattle.demands.proofs.Tested.{shown-proper}
 use Rattle.demands.proofs.Owned.{new-kept}
 use Rattle.demands.proofs.SoundIs.{tree-intact, tree-entries, test-of-set, held-by-entries}
 
--- document 01's number and key of an answer
+-- the number, the key and the serial of an answer
 abbrev pub said-by : Answer → Said
-said-by a = record { number = numberOf a; key = keyOf a }
+said-by a = record { number = numberOf a; key = keyOf a; serial = serialOf a }
 
 said-word : (p : Perhaps Found) → said-by (saying say-word p) ≡ word (its wordIn p)
-unfolding numberOf keyOf
+unfolding numberOf keyOf serialOf
 said-word no-such = refl
 said-word (such x) = refl
 
@@ -49,14 +49,14 @@ said-entry : (p : Perhaps Found) {q : Perhaps Entry} → entryIn p ≡ q → sai
 said-entry p found = said-word p ∙ ap word (word-entry p ∙ ap wordOf found)
 
 said-distance : (p : Perhaps ℕ) → said-by (saying Distance p) ≡ word p
-unfolding numberOf keyOf
+unfolding numberOf keyOf serialOf
 said-distance no-such = refl
 said-distance (such x) = refl
 
-said-done : (p : Perhaps Found) → said-by (saying done p) ≡ (if isThere p then only 0 else only 8)
-unfolding numberOf keyOf
-said-done no-such = refl
-said-done (such x) = refl
+said-serial : (p : Perhaps Found) {q : Perhaps Entry} → entryIn p ≡ q → said-by (saying say-serial p) ≡ found q
+unfolding numberOf keyOf serialOf
+said-serial no-such same = ap found same
+said-serial (such x) same = ap found same
 
 either-way : {A : Type 0} (b : Bool) (x : A) → (if b then x else x) ≡ x
 either-way true x = refl
@@ -103,10 +103,10 @@ module _ (h : Header) (table buffer : List ℕ) (S : List Entry) (H : Holding h 
   read : {A : Type 0} (wide : Bool) (say : A → Answer) (r : Reading A) (said : Said) → brokenIn (r .ways) ≡ false
       → (wide ≡ false → said-by (saying say (r .answer)) ≡ said)
       → let all : Said = if wide then only 3 else said in
-      Keeps all (if eqb (all .number) 0 then kept else kept) table (leaving (read-reply h table wide say r))
-  unfolding numberOf keyOf
+      Keeps all (if eqb (all .number) 0 || eqb (all .number) 7 then kept else kept) table (leaving (read-reply h table wide say r))
+  unfolding numberOf keyOf serialOf
   read wide say r said sound found =
-      rw (either-way (eqb ((if wide then only 3 else said) .number) 0) kept, H .right-header, sound) (either wide found)
+      rw (either-way (eqb ((if wide then only 3 else said) .number) 0 || eqb ((if wide then only 3 else said) .number) 7) kept, H .right-header, sound) (either wide found)
     where
       either : (b : Bool) → (b ≡ false → said-by (saying say (r .answer)) ≡ said)
           → Keeps (if b then only 3 else said) kept table (leaving (if b then refused h WordTooWide else answered h (saying say (r .answer)) (rowsOf (r .ways))))
@@ -120,12 +120,10 @@ module _ (h : Header) (table buffer : List ℕ) (S : List Entry) (H : Holding h 
     pub keeps-has : KeepsDictionary after (Has k) h table buffer S
     unfolding after expected kept-after changed hasReply too-wide
     keeps-has =
-        read (leb (2 ^ h .width) k) done (has-read (h .width) k t) (if isThere (lookup k S) then only 0 else only 8) (has-unbroken (h .width) t (undamaged H) k)
+        read (leb (2 ^ h .width) k) say-serial (has-read (h .width) k t) (found (lookup k S)) (has-unbroken (h .width) t (undamaged H) k)
         (λ e.
-        said-done (has-read (h .width) k t .answer)
-        ∙ ap (λ b. if b then only 0 else only 8)
-        (sym (there-entry (has-read (h .width) k t .answer))
-        ∙ ap isThere (has-answer (h .width) k 0 0 t (narrow h k e) (proper H) ∙ ap (lookup k) (holds-entries H))))
+        said-serial (has-read (h .width) k t .answer)
+        (has-answer (h .width) k 0 0 t (narrow h k e) (proper H) ∙ ap (lookup k) (holds-entries H)))
 
     pub keeps-next : KeepsDictionary after (Next k) h table buffer S
     unfolding after expected kept-after changed nextReply too-wide
@@ -165,25 +163,25 @@ module _ (h : Header) (table buffer : List ℕ) (S : List Entry) (H : Holding h 
       (λ e. said-entry (last-read (h .width) t .answer) (last-answer (h .width) 0 0 t (proper H) ∙ ap max (holds-entries H)))
 
   pub keeps-audit : KeepsDictionary after Audit h table buffer S
-  unfolding after expected kept-after changed auditReply numberOf keyOf
+  unfolding after expected kept-after changed auditReply numberOf keyOf serialOf
   keeps-audit = rw (H .right-header, test-of-set (H .holds)) (nothing-changed (answered h Done (h .count)) (only 0) refl refl)
 
   pub keeps-list : KeepsDictionary after Call.List h table buffer S
-  unfolding after expected kept-after changed listReply listBuffer numberOf keyOf
+  unfolding after expected kept-after changed listReply listBuffer numberOf keyOf serialOf
   keeps-list = rw (H .right-header, test-of-set (H .holds), holds-entries H, H .holds .number) (either (ltb (length buffer) (h .count)))
     where
-      either : (b : Bool) → Keeps (if b then only 6 else only 0) (if eqb ((if b then only 6 else only 0) .number) 0 then record { width = h .width; set = S; buffer = words S ++ drop (h .count) buffer } else kept) table
+      either : (b : Bool) → Keeps (if b then only 6 else only 0) (if eqb ((if b then only 6 else only 0) .number) 0 || eqb ((if b then only 6 else only 0) .number) 7 then record { width = h .width; set = S; buffer = words S ++ drop (h .count) buffer } else kept) table
           (record { reply = if b then refused h ShortBuffer else answered h Done (h .count); table = table; buffer = if b then buffer else words S ++ drop (h .count) buffer })
       either true = nothing-changed (refused h ShortBuffer) (only 6) refl refl
       either false = record { answer = refl; width = refl; held = H; written = refl; same-length = refl }
 
   -- "it clears every row and hands back its W with a count of 0"
   pub keeps-new : (w : ℕ) → KeepsDictionary after (New w) h table buffer S
-  unfolding after expected kept-after changed newReply newTable numberOf keyOf
+  unfolding after expected kept-after changed newReply newTable numberOf keyOf serialOf
   keeps-new w = either (wrong-width w) refl
     where
       either : (b : Bool) → wrong-width w ≡ b
-          → Keeps (if b then only 1 else only 0) (if eqb ((if b then only 1 else only 0) .number) 0 then record { width = w; set = []; buffer = buffer } else kept) table
+          → Keeps (if b then only 1 else only 0) (if eqb ((if b then only 1 else only 0) .number) 0 || eqb ((if b then only 1 else only 0) .number) 7 then record { width = w; set = []; buffer = buffer } else kept) table
           (record { reply = if b then refused h WrongWidth else answered (fresh w) Done 0; table = if b then table else cleaned table; buffer = buffer })
       either true e = nothing-changed (refused h WrongWidth) (only 1) refl refl
       either false e = record { answer = refl; width = refl; held = empty-held w (cleaned table) e; written = refl; same-length = rw e at (new-kept table w .same-length) }

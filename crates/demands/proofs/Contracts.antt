@@ -33,7 +33,7 @@ module _ {x y : After} where
 pub contract-is-after : ContractIsAfter
 unfolding Contract after
 contract-is-after t b (New W) h table buffer a = writes-table
-contract-is-after t b (Add k) h table buffer a = writes-table
+contract-is-after t b (Add k serial) h table buffer a = writes-table
 contract-is-after t b (Del k) h table buffer a = writes-table
 contract-is-after t b (Has k) h table buffer a = only-replies
 contract-is-after t b (Next k) h table buffer a = only-replies
@@ -47,7 +47,7 @@ contract-is-after t b Call.List h table buffer a = writes-buffer
 pub asks-nothing : AsksNothing
 unfolding Requires
 asks-nothing t b (New W) h table buffer = tt
-asks-nothing t b (Add k) h table buffer = tt
+asks-nothing t b (Add k serial) h table buffer = tt
 asks-nothing t b (Del k) h table buffer = tt
 asks-nothing t b (Has k) h table buffer = tt
 asks-nothing t b (Next k) h table buffer = tt

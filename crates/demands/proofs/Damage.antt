@@ -230,7 +230,7 @@ ends-tested k w = at-end (w .bits) (w .end)
 -- the test that each call makes
 unfoldable pub damageTest : Call → Header → List ℕ → Bool
 damageTest (New w) h table = false
-damageTest (Add k) h table = brokenIn (waysOf (Add k) h table)
+damageTest (Add k serial) h table = brokenIn (waysOf (Add k serial) h table)
 damageTest (Del k) h table =
     let e : Erasing = erasing (h .width) k (shown h table) in
     let second : Way = secondWay h table in
@@ -320,7 +320,7 @@ module _ (h : Header) (table : List ℕ) where
 pub damage-tested : (c : Call) (h : Header) (table : List ℕ) → Whether (DamageOn c h table) (damageTest c h table)
 unfolding DamageOn damageTest waysOf
 damage-tested (New w) h table = never (λ no. no)
-damage-tested (Add k) h table = adding-tested (h .width) (shown-pruned h table) (entryFor k) .exactly
+damage-tested (Add k serial) h table = adding-tested (h .width) (shown-pruned h table) (entryFor k serial) .exactly
 damage-tested (Del k) h table = del-tested h table k
 damage-tested (Has k) h table = has-tested (h .width) (shown-pruned h table) k
 damage-tested (Next k) h table = next-tested (h .width) (shown-pruned h table) k
@@ -332,10 +332,10 @@ damage-tested Audit h table = never (λ no. no)
 damage-tested Call.List h table = never (λ no. no)
 
 -- an `add` that meets no damage finds out whether its word is absent
-pub absent-tested : (k : ℕ) (h : Header) (table : List ℕ) → broken (adding (h .width) (entryFor k) (shown h table) .rows-read) ≡ false
-    → Whether (Absent k h table) (not (adding (h .width) (entryFor k) (shown h table) .present))
-absent-tested k h table whole =
-    rw (← adding-tested (h .width) (shown-pruned h table) (entryFor k) .same-presence whole, adding-finds (h .width) (entryFor k) (named h table))
+pub absent-tested : (k serial : ℕ) (h : Header) (table : List ℕ) → broken (adding (h .width) (entryFor k serial) (shown h table) .rows-read) ≡ false
+    → Whether (Absent k h table) (not (adding (h .width) (entryFor k serial) (shown h table) .present))
+absent-tested k serial h table whole =
+    rw (← adding-tested (h .width) (shown-pruned h table) (entryFor k serial) .same-presence whole, adding-finds (h .width) (entryFor k serial) (named h table))
     (not-tested (ends-at k (wayOf k h table)) (ends-tested k (wayOf k h table)))
 
 -- no damage on a table that holds a set: no way breaks there, and the second way of a `del` finds the last row
@@ -348,8 +348,8 @@ none-in-sets c h table S held = fails (rw (passes c) at (damage-tested c h table
 
     passes : (c : Call) → damageTest c h table ≡ false
     passes (New w) = refl
-    passes (Add k) =
-        broken-alone (adding (h .width) (entryFor k) (shown h table) .rows-read) ∙ adding-unbroken (h .width) (shown h table) whole (entryFor k)
+    passes (Add k serial) =
+        broken-alone (adding (h .width) (entryFor k serial) (shown h table) .rows-read) ∙ adding-unbroken (h .width) (shown h table) whole (entryFor k serial)
     passes (Del k) =
         rw (erasing-unbroken (h .width) (shown h table) whole k, second-unbroken)
         (by-count (eqb (h .count) 0) refl (erasing (h .width) k (shown h table) .present) (erasing-finds (h .width) k (shown h table)))
@@ -388,4 +388,4 @@ one-row = record { has-4 = fails (damage-tested (Has 4) h table); has-8 = damage
     h = record { width = 4; count = 1 }
 
     table : List ℕ
-    table = 4 ∷ 0 ∷ 9 ∷ []
+    table = 4 ∷ 0 ∷ 9 ∷ 0 ∷ []

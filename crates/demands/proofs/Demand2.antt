@@ -17,12 +17,12 @@ use Rattle.demands.specs.Expected.{Kept, expected, kept-after, kept-afte
 use Rattle.demands.specs.Demand2.{Keeps, Demand2, HoldsKept, empty-state, empty-kept, Throughout, AnswersAs, Sequences, SequencesFromEmpty, EverySetHeld}
 use Rattle.demands.proofs.Written.{every-set-has-rows}
 use Rattle.demands.proofs.Answered.{empty-held, keeps-has, keeps-next, keeps-prev, keeps-gap, keeps-first, keeps-last, keeps-audit, keeps-list, keeps-new}
-use Rattle.demands.proofs.Added.{keeps-add}
+use Rattle.demands.proofs.StoredSerial.{keeps-add}
 use Rattle.demands.proofs.Removed.{keeps-del}
 
 pub demand2 : Demand2 after
 demand2 (New w) h table buffer S H = keeps-new h table buffer S H w
-demand2 (Add k) h table buffer S H = keeps-add h table S H k buffer
+demand2 (Add k serial) h table buffer S H = keeps-add h table S H k serial buffer
 demand2 (Del k) h table buffer S H = keeps-del h table S H k buffer
 demand2 (Has k) h table buffer S H = keeps-has h table buffer S H k
 demand2 (Next k) h table buffer S H = keeps-next h table buffer S H k

@@ -34,14 +34,12 @@ pub history-from-empty : HistoryFromEmpty after
 history-from-empty cs W table right = history cs (empty-state W table) (empty-kept W) (empty-holds W table right)
 
 pub two-histories : TwoHistories after
-two-histories cs cs′ W W′ table table′ right right′ same-length same-width same-set c buffer buffer′ same-space =
+two-histories cs cs′ W W′ table table′ right right′ same-length same-width same-words c buffer buffer′ same-space =
     let e = sequences-from-empty cs W table right in
     let e′ = sequences-from-empty cs′ W′ table′ right′ in
-    let held : Holding (end-state after cs (empty-state W table) .header) (end-state after cs (empty-state W table) .table) (kept-at-end cs′ (capacity table′) (empty-kept W′) .set) =
-    subst (Holding (end-state after cs (empty-state W table) .header) (end-state after cs (empty-state W table) .table)) same-set (e .at-end .held) in
     rows-alike c (end-state after cs (empty-state W table) .header) (end-state after cs′ (empty-state W′ table′) .header)
     (end-state after cs (empty-state W table) .table) (end-state after cs′ (empty-state W′ table′) .table) buffer buffer′
-    (kept-at-end cs′ (capacity table′) (empty-kept W′) .set)
-    (held .right-header) (e′ .at-end .held .right-header) (held .holds) (e′ .at-end .held .holds)
+    (kept-at-end cs (capacity table) (empty-kept W) .set) (kept-at-end cs′ (capacity table′) (empty-kept W′) .set)
+    (e .at-end .held .right-header) (e′ .at-end .held .right-header) (e .at-end .held .holds) (e′ .at-end .held .holds) same-words
     (e .at-end .width ∙ same-width ∙ sym (e′ .at-end .width))
     (e .same-length ∙ same-length ∙ sym (e′ .same-length)) same-space

@@ -145,7 +145,7 @@ reached-by-calls W some fits =
     let there : isThere (lookup (2 ^ W - 1) (entriesFor (chain W 0))) ≡ true = rw (zero-mul, zero-add) at (top-there W 0) in
     record {
       has-reads = rw (reached W .has-reads) at (on-chain (Has (2 ^ W - 1)) (λ room space. small));
-      add-reads = rw (reached W .add-reads) at (on-chain (Add (2 ^ W - 1)) (λ room space. rw (small, there)));
+      add-reads = λ serial. rw (reached W .add-reads serial) at (on-chain (Add (2 ^ W - 1) serial) (λ room space. rw (small, there)));
       del-reads = rw (reached W .del-reads) at (on-chain (Del (2 ^ W - 1)) (λ room space. small));
       first-reads = rw (reached W .first-reads) at (on-chain First (λ room space. refl));
       last-reads = rw (reached W .last-reads) at (on-chain Last (λ room space. refl));
@@ -228,7 +228,12 @@ least-bounds W some fits =
     let top-word : ℕ = 2 ^ W - 1 in
     record {
       has-bound = record { bounds = bounded Has (λ k h e. omega arith); no-lower = no-less rows-read Has top-word few (r .has-reads) };
-      add-bound = record { bounds = bounded Add (λ k h e. omega arith); no-lower = no-less rows-read Add top-word few (r .add-reads) };
+      add-bound =
+          λ serial.
+          record {
+            bounds = bounded (λ k. Add k serial) (λ k h e. omega arith);
+            no-lower = no-less rows-read (λ k. Add k serial) top-word few (r .add-reads serial);
+          };
       del-bound = record { bounds = bounded Del (λ k h e. omega arith); no-lower = no-less rows-read Del top-word few (r .del-reads) };
       first-bound = record { bounds = bounded (λ k. First) (λ k h e. omega arith); no-lower = no-less rows-read (λ k. First) 0 few (r .first-reads) };
       last-bound = record { bounds = bounded (λ k. Last) (λ k h e. omega arith); no-lower = no-less rows-read (λ k. Last) 0 few (r .last-reads) };

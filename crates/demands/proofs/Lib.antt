@@ -6,6 +6,7 @@ pub mod Meeting
 pub mod Tested
 pub mod SoundIs
 pub mod Whether
+pub mod ShownRows
 pub mod Owned
 pub mod Written
 pub mod SecondWay
@@ -16,6 +17,7 @@ pub mod Answered
 pub mod Spelled
 pub mod Rewritten
 pub mod Added
+pub mod StoredSerial
 pub mod Erasures
 pub mod Removed
 pub mod Zeros

@@ -16,7 +16,7 @@ use Rattle.pretree.specs.declared.Call.{Call}
 use Rattle.pretree.specs.declared.Call.the-variants.{New, Add, Del, Has, Next, Prev, Gap, First, Last, Audit}
 use Rattle.pretree.specs.declared.Answer.the-variants.{WrongHeader}
 use Rattle.pretree.specs.Table.{capacity}
-use Rattle.pretree.specs.Answer.{numberOf, keyOf}
+use Rattle.pretree.specs.Answer.{numberOf, keyOf, serialOf}
 use Rattle.pretree.specs.Reply.{fresh, wrong-width, wrong-header, refused}
 use Rattle.pretree.specs.Find.{hasReply, nextReply, prevReply, firstReply, lastReply, gapReply}
 use Rattle.pretree.specs.Add.{addOutcome}
@@ -71,7 +71,7 @@ set-found works width some = some
 -- "After a `list` with answer 0 come lines `key`, tab, word."
 list-listed : (k : Kept) (table : List ℕ) (left : After) (b : Bool)
     → let said = if b then only 6 else only 0 in
-    Keeps said (if eqb (said .number) 0 then changed Call.List k else k) table left
+    Keeps said (if eqb (said .number) 0 || eqb (said .number) 7 then changed Call.List k else k) table left
     → take (listedIn (left .reply)) (left .buffer) ≡ (if eqb (said .number) 0 then words (k .set) else [])
 unfolding changed
 list-listed k table left true keeps = rw (ap (λ x. x .number) (keeps .answer))
@@ -82,7 +82,7 @@ words-listed : (c : Call) (k : Kept) (table : List ℕ) (left : After) → Keeps
     → take (listedBy c (left .reply)) (left .buffer) ≡ listed-on-set (kindOf c) (expected c 4096 k .number) (k .set)
 unfolding listedBy expected kept-after
 words-listed (New w) k table left keeps = refl
-words-listed (Add x) k table left keeps = refl
+words-listed (Add x serial) k table left keeps = refl
 words-listed (Del x) k table left keeps = refl
 words-listed (Has x) k table left keeps = refl
 words-listed (Next x) k table left keeps = refl
@@ -125,10 +125,13 @@ module _ (c : Call) (s : State) (k : Kept) (same-buffer : s .buffer ≡ k .buffe
   says-on-set =
       let refused : Bool = refusedOver c (k .width) (k .set) 4096 (length (k .buffer)) in
       same-fields (ap (λ x. x .number) (keeps .answer)) (ap (λ x. asNumber (x .key)) (keeps .answer)) (reports .rows-read) (reports .moving-count)
+      (ap (λ x. asNumber (x .serial)) (keeps .answer))
     where
-      same-fields : {a a′ rows rows′ moved moved′ : ℕ} {key key′ : Number} → a ≡ a′ → key ≡ key′ → rows ≡ rows′ → moved ≡ moved′
-          → _≡_ {A = ReplyFields} (record { answer = a; key = key; rows = rows; moved = moved }) (record { answer = a′; key = key′; rows = rows′; moved = moved′ })
-      same-fields e f g h = rw (e, f, g, h)
+      same-fields : {a a′ rows rows′ moved moved′ : ℕ} {key key′ serial serial′ : Number} → a ≡ a′ → key ≡ key′ → rows ≡ rows′ → moved ≡ moved′
+          → serial ≡ serial′
+          → _≡_ {A = ReplyFields} (record { answer = a; key = key; rows = rows; moved = moved; serial = serial })
+          (record { answer = a′; key = key′; rows = rows′; moved = moved′; serial = serial′ })
+      same-fields e f g h i = rw (e, f, g, h, i)
 
   on-set : Dictated (Read c) s k
   unfolding answer fields-to listed-to kept-after-line
@@ -149,7 +152,7 @@ no-set-left : (c : Call) (table buffer : List ℕ) → finds-no-set (kindOf c) 0
     → after c (fresh 0) table buffer ≡ record { reply = refused (fresh 0) WrongHeader; table = table; buffer = buffer }
 unfolding after wrong-header hasReply nextReply prevReply gapReply firstReply lastReply addOutcome delOutcome auditReply listReply listBuffer
 no-set-left (New w) table buffer none-found = absurd (false≢true none-found)
-no-set-left (Add k) table buffer none-found = refl
+no-set-left (Add k serial) table buffer none-found = refl
 no-set-left (Del k) table buffer none-found = refl
 no-set-left (Has k) table buffer none-found = refl
 no-set-left (Next k) table buffer none-found = refl
@@ -163,7 +166,7 @@ no-set-left Call.List table buffer none-found = refl
 unlisted : (c : Call) → listedBy c (refused (fresh 0) WrongHeader) ≡ 0
 unfolding listedBy numberOf
 unlisted (New w) = refl
-unlisted (Add k) = refl
+unlisted (Add k serial) = refl
 unlisted (Del k) = refl
 unlisted (Has k) = refl
 unlisted (Next k) = refl
@@ -177,7 +180,7 @@ unlisted Call.List = refl
 -- a call makes a set, or finds none
 new-or-none : (c : Call) → ((w : ℕ) × (c ≡ New w)) ⊎ (finds-no-set (kindOf c) 0 ≡ true)
 new-or-none (New w) = inl (w, refl)
-new-or-none (Add k) = inr refl
+new-or-none (Add k serial) = inr refl
 new-or-none (Del k) = inr refl
 new-or-none (Has k) = inr refl
 new-or-none (Next k) = inr refl
@@ -191,7 +194,7 @@ new-or-none Call.List = inr refl
 -- where there is no set yet
 module _ (s : State) (k : Kept) (same-buffer : s .buffer ≡ k .buffer) (room : capacity (s .table) ≡ 4096) (at-start : s .header ≡ fresh 0) (no-width : k .width ≡ 0) where
   none-found : (c : Call) → finds-no-set (kindOf c) 0 ≡ true → Dictated (Read c) s k
-  unfolding answer fields-to listed-to kept-after-line numberOf keyOf
+  unfolding answer fields-to listed-to kept-after-line numberOf keyOf serialOf
   none-found c finds =
       let left : after c (s .header) (s .table) (s .buffer) ≡ record { reply = refused (fresh 0) WrongHeader; table = s .table; buffer = s .buffer } =
       ap (λ h. after c h (s .table) (s .buffer)) at-start ∙ no-set-left c (s .table) (s .buffer) finds in
@@ -206,7 +209,7 @@ module _ (s : State) (k : Kept) (same-buffer : s .buffer ≡ k .buffer) (room : 
   new-room w = same-capacity (newTable (s .table) w) (s .table) (new-kept (s .table) w .same-length) ∙ room
 
   makes-one : (w : ℕ) → Dictated (Read (New w)) s k
-  unfolding answer after newReply newTable fields-to listed-to kept-after-line kept-after changed expected refusedOver rowsOver movedOver listedBy numberOf keyOf
+  unfolding answer after newReply newTable fields-to listed-to kept-after-line kept-after changed expected refusedOver rowsOver movedOver listedBy numberOf keyOf serialOf
   makes-one w = by-cases (wrong-width w) refl
     where
       by-cases : (b : Bool) → wrong-width w ≡ b → Dictated (Read (New w)) s k

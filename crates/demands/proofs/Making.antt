@@ -43,20 +43,20 @@ length-for (x ∷ xs) = ap suc (length-for xs)
 
 pub append-for : (xs ys : List ℕ) → entriesFor (xs ++ ys) ≡ entriesFor xs ++ entriesFor ys
 append-for [] ys = refl
-append-for (x ∷ xs) ys = ap (λ es. entryFor x ∷ es) (append-for xs ys)
+append-for (x ∷ xs) ys = ap (λ es. entryFor x 0 ∷ es) (append-for xs ys)
 
 -- a word that is greater than all the others, for which there is room
 module _
     (W room x : ℕ) (S : List Entry) (narrow : x < 2 ^ W) (greatest : (y : ℕ) → y ∈ words S → y < x) (few : length S < room)
   where
     abbrev new : Entry
-    new = entryFor x
+    new = entryFor x 0
 
     put-last : insert new S ≡ S ++ (new ∷ [])
     unfolding insert
     put-last = ap (insert new) (sym (append-nil S)) ∙ insert-between new S [] [] (all-words S greatest) none-all
 
-    pub add-keeps : kept-after (Add x) room (keeping W S) ≡ keeping W (S ++ (new ∷ []))
+    pub add-keeps : kept-after (Add x 0) room (keeping W S) ≡ keeping W (S ++ (new ∷ []))
     unfolding kept-after expected changed
     add-keeps = rw (lt-leb (2 ^ W) x narrow, greatest-absent x S greatest, ne-eqb (length S) room (λ same. omega arith), put-last)
 
@@ -67,7 +67,7 @@ unfolding kept-at-end adds
 adds-keep W room S [] rising below few = rw append-nil
 adds-keep W room S (x ∷ xs) rising below few =
     let same : (S ++ (x ∷ [])) ++ xs ≡ S ++ (x ∷ xs) = append-assoc S (x ∷ []) xs in
-    let one : kept-after (Add x) room (keeping W (entriesFor S)) ≡ keeping W (entriesFor (S ++ (x ∷ []))) =
+    let one : kept-after (Add x 0) room (keeping W (entriesFor S)) ≡ keeping W (entriesFor (S ++ (x ∷ []))) =
     add-keeps W room x (entriesFor S) (below x (Memᴰ·append-right S (List·Memᴰ·head refl)))
     (λ y there. increasing-parts S (x ∷ xs) rising .2 y x (rw (words-for S) at there) (List·Memᴰ·head refl))
     (omega (arith, length-append S (x ∷ xs), length-for S))
@@ -109,7 +109,7 @@ module _ (W : ℕ) (S : List ℕ) (s : State) (right : wrong-width W ≡ false) 
 adds-both : (S xs : List ℕ) (s : State) → end-state after (adds (S ++ xs)) s ≡ end-state after (adds xs) (end-state after (adds S) s)
 unfolding end-state adds
 adds-both [] xs s = refl
-adds-both (x ∷ S) xs s = adds-both S xs (state-after after (asked (Add x)) s)
+adds-both (x ∷ S) xs s = adds-both S xs (state-after after (asked (Add x 0)) s)
 
 -- the key of the last row
 abbrev pub last-key : State → ℕ
@@ -140,5 +140,5 @@ module _ (W : ℕ) (S : List ℕ) (x : ℕ) (s : State) (right : wrong-width W �
         ne-eqb (before-last .header .count) (capacity (before-last .table)) (λ same.
         omega (arith, here .held .holds .number, length-for S, same-room W S s right others (omega arith))) in
         ap last-key (adds-both S (x ∷ []) (state-after after (asked (New W)) s))
-        ∙ last-row-takes (before-last .header) (before-last .table) (entriesFor S) (here .held) (entryFor x) small not-full
+        ∙ last-row-takes (before-last .header) (before-last .table) (entriesFor S) (here .held) (entryFor x 0) small not-full
         (λ y there. increasing-parts S (x ∷ []) (set .increasing) .2 y x (rw (words-for S) at there) (List·Memᴰ·head refl))

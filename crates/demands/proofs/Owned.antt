@@ -34,76 +34,32 @@ use Rattle.pretree.specs.Del.{secondWay, astray, moving, shrunk, delOutcome}
 use Rattle.pretree.proofs.Rows.{entry-length, link-length, row-length, entry-past, link-past, row-past}
 use Rattle.pretree.proofs.Checks.{right-header}
 use Rattle.demands.specs.Refusals.{SameFrom}
-use Rattle.demands.proofs.Unfolding.{both}
+use Rattle.demands.proofs.ShownRows.{EachRow, shown-each, way-each}
 use Rattle.demands.proofs.Tested.{test-says}
 
 -- every row of the tree is below c
-unfoldable InUse : ℕ → Tree → Type 0
-InUse c none = Unit {0}
-InUse c (row i e l r) = (i < c) × InUse c l × InUse c r
-InUse c damaged = Unit {0}
+abbrev InUse : ℕ → Tree → Type 0
+InUse c = EachRow (λ i e. i < c)
 
 abbrev Passed : ℕ → Way → Type 0
 Passed c w = All (λ s. s .at < c) (w .passed)
 
 module _ (c : ℕ) where
-  module _ (rows : ℕ → Row) (n : ℕ) (fits : n ≤ c) where
-    row-in-use : (m path low i : ℕ) (e : Entry) (l r : Tree) → InUse c l → InUse c r
-        → InUse c (if judged n m path low i (rows i) then row i e l r else damaged)
-    unfolding InUse
-    row-in-use m path low i e l r u v = by-cases (judged n m path low i (rows i)) refl
-      where
-        by-cases : (b : Bool) → judged n m path low i (rows i) ≡ b → InUse c (if b then row i e l r else damaged)
-        by-cases true passes = let used : i < n = ltb-true i n (both (ltb i n) _ passes .0) in (omega arith, u, v)
-        by-cases false fails = tt
-
-    linked-in-use : (f : ℕ → Tree) → ((k : ℕ) → InUse c (f k)) → (j : ℕ) → InUse c (linked f j)
-    unfolding InUse
-    linked-in-use f u zero = tt
-    linked-in-use f u (suc j) = u (suc j)
-
-    unfolded-in-use : (m path low i : ℕ) → InUse c (unfolded rows n m path low i)
-    unfolding InUse unfolded
-    unfolded-in-use zero path low i = row-in-use zero path low i (entryOf (rows i)) none none tt tt
-    unfolded-in-use (suc m) path low i =
-        let low′ : ℕ = suc (rows i .entry .key) in
-        let below : Side → Tree = λ s. linked (unfolded rows n m (path * 2 + bitOf s) low′) (link (rows i) s) in
-        let used : (s : Side) → InUse c (below s) =
-        λ s. linked-in-use (unfolded rows n m (path * 2 + bitOf s) low′) (unfolded-in-use m (path * 2 + bitOf s) low′) (link (rows i) s)
-        in
-        row-in-use (suc m) path low i (entryOf (rows i)) (below left) (below right) (used left) (used right)
-
   shown-in-use : (h : Header) (table : List ℕ) → h .count ≤ c → InUse c (shown h table)
-  unfolding shown InUse
-  shown-in-use h table fits = by-cases (eqb (h .count) 0)
-    where
-      by-cases : (b : Bool) → InUse c (if b then none else unfolded (rowAt table) (h .count) (h .width) 0 0 0)
-      by-cases true = tt
-      by-cases false = unfolded-in-use (rowAt table) (h .count) fits (h .width) 0 0 0
+  shown-in-use h table fits = shown-each (λ i e. i < c) h table (λ i used. omega arith)
 
-  part-in-use : (s : Side) (i : ℕ) (e : Entry) (l r : Tree) → InUse c (row i e l r) → InUse c (part s l r)
-  unfolding InUse
-  part-in-use left i e l r u = u .1
-  part-in-use right i e l r u = u .2
-
-  -- so every row that a way passes, and its end, is below c
   way-in-use : (f : Rule) (m : ℕ) (t : Tree) → InUse c t → Passed c (way f m t) × InUse c (way f m t .end)
-  unfolding InUse
-  way-in-use f =
-      along f (λ m t w. InUse c t → Passed c w × InUse c (w .end)) (λ m t ends u. (none-all, u))
-      (λ m i e l r s says rest u.
-      let below = rest (part-in-use s i e l r u) in
-      (one-all (u .0) (below .0), below .1))
+  way-in-use = way-each (λ i e. i < c)
 
   -- a way that ends at a key ends at a row
   ended-in-use : (k m : ℕ) (t : Tree) → InUse c t → isThere (only-if (λ f. eqb k (wordIn f)) (root-row m t)) ≡ true → 0 < c
-  unfolding InUse
+  unfolding EachRow
   ended-in-use k m none u there = absurd (false≢true there)
   ended-in-use k m (row i e l r) u there = omega (arith, u .0)
   ended-in-use k m damaged u there = absurd (false≢true there)
 
   number-in-use : (t : Tree) → 0 < c → InUse c t → numberAt t < c
-  unfolding InUse
+  unfolding EachRow
   number-in-use none some u = some
   number-in-use (row i e l r) some u = u .0
   number-in-use damaged some u = some
@@ -131,7 +87,7 @@ module _ (c : ℕ) where
 
   adding-in-use : (m : ℕ) (new : Entry) (t : Tree) → InUse c t → Taken (adding m new t .takes) × Hooked (adding m new t .hook)
   unfolding adding
-  adding-in-use m new t u = by-cases (ends-at (new .key) w)
+  adding-in-use m new t u = by-cases (ends-at (new .key) w) refl
     where
       w : Way
       w = way (following (new .key)) m t
@@ -139,9 +95,13 @@ module _ (c : ℕ) where
       push : Way
       push = way pushing (w .bits) (w .end)
 
-      by-cases : (b : Bool) → Taken (adding-by new w push (joined w push) b .takes) × Hooked (adding-by new w push (joined w push) b .hook)
-      by-cases true = (none-all, tt)
-      by-cases false =
+      by-cases : (b : Bool) → ends-at (new .key) w ≡ b
+          → Taken (adding-by new w push (joined w push) b .takes) × Hooked (adding-by new w push (joined w push) b .hook)
+      by-cases true there = (one-all (number-in-use (w .end) (ended-in-use (new .key) (w .bits) (w .end) ends there) ends) none-all, tt)
+        where
+          ends : InUse c (w .end)
+          ends = way-in-use (following (new .key)) m t u .1
+      by-cases false absent =
           let us = way-in-use (following (new .key)) m t u in
           let vs = way-in-use pushing (w .bits) (w .end) (us .1) in
           (pushed-in-use new (vs .0), joined-in-use w push (us .0) (vs .0))
@@ -277,19 +237,29 @@ module _ (h : Header) (table : List ℕ) (new : Entry) where
       let used = adding-in-use c (h .width) new (shown h table) (shown-in-use c h table (omega arith)) in
       grown-kept c (h .count) a table room (used .0) (used .1)
 
-  -- what holds where `add` doesn't write, and of the outcome above, holds of every outcome
-  pub add-outcome : (P : Outcome → Type 0) → Unchanged h table P → (h .count < capacity table → P added) → P (addOutcome h table new)
+  -- and where the word is there
+  abbrev pub stored : Outcome
+  stored = record { reply = answered h AlreadyThere (rows (a .rows-read)); table = taking (a .takes) table }
+
+  pub stored-kept : (c : ℕ) → h .count ≤ c → Kept c table (stored .table)
+  stored-kept c fits = taking-kept c table (adding-in-use c (h .width) new (shown h table) (shown-in-use c h table fits) .0)
+
+  -- what holds where `add` doesn't write, and of the two outcomes above, holds of every outcome
+  pub add-outcome : (P : Outcome → Type 0) → Unchanged h table P
+      → (h .count ≤ capacity table → a .present ≡ true → P stored) → (h .count < capacity table → P added) → P (addOutcome h table new)
   unfolding addOutcome
-  add-outcome P unchanged written =
+  add-outcome P unchanged there-written written =
       by-test P (wrong-header h table) (λ wrong. unchanged (refused h WrongHeader) refl)
       (λ right. by-test P (too-wide h (new .key)) (λ wide. unchanged (refused h WordTooWide) refl)
       (λ narrow. by-test P (broken (a .rows-read)) (λ damage. unchanged (refused h Damage) refl)
-      (λ whole. by-test P (a .present) (λ there. unchanged (answered h AlreadyThere (rows (a .rows-read))) refl)
+      (λ whole. by-test P (a .present) (λ there. there-written (right-header h table right .has-room) there)
       (λ absent. by-test P (eqb (h .count) (capacity table)) (λ full. unchanged (refused h Full) refl)
       (λ room. written (omega (arith, right-header h table right .has-room, eqb-false (h .count) (capacity table) room)))))))
 
   pub add-kept : Keeps table (addOutcome h table new)
-  add-kept = add-outcome (Keeps table) (λ r same. same-all (rowWords * capacity table)) (added-kept (capacity table))
+  add-kept =
+      add-outcome (Keeps table) (λ r same. same-all (rowWords * capacity table)) (λ room there. stored-kept (capacity table) room)
+      (added-kept (capacity table))
 
 module _ (h : Header) (table : List ℕ) (k : ℕ) where
   abbrev e : Erasing

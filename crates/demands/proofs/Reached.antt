@@ -30,8 +30,8 @@ use Rattle.demands.proofs.Making.{words-for, append-for}
 
 -- the tree of a chain
 pub ladder : ℕ → ℕ → Tree
-ladder zero p = row 0 (entryFor p) none none
-ladder (suc m) p = row 0 (entryFor (p * 2 ^ suc m)) none (ladder m (p * 2 + 1))
+ladder zero p = row 0 (entryFor p 0) none none
+ladder (suc m) p = row 0 (entryFor (p * 2 ^ suc m) 0) none (ladder m (p * 2 + 1))
 
 ladder-entries : (m p : ℕ) → entries (ladder m p) ≡ entriesFor (chain m p)
 unfolding ladder entries chain
@@ -77,13 +77,13 @@ top-step m p = omega (arith, one-more m p, pow-pos m)
 record Rightmost (m k : ℕ) (w : Way) : Type 0 where
   steps : length (w .passed) ≡ m
   bits-left : w .bits ≡ 0
-  pub ends : w .end ≡ row 0 (entryFor k) none none
+  pub ends : w .end ≡ row 0 (entryFor k 0) none none
   nothing-aside : last-such right-left-aside (w .passed) ≡ no-such
 
 -- a rule that turns right at each row over the word k goes down so
 abbrev Turns-right : ℕ → Rule → Type 0
 Turns-right k f =
-    (m p : ℕ) → top m (p * 2 + 1) ≡ k → f m (entryFor (p * 2 ^ suc m)) none (ladder m (p * 2 + 1)) ≡ to right
+    (m p : ℕ) → top m (p * 2 + 1) ≡ k → f m (entryFor (p * 2 ^ suc m) 0) none (ladder m (p * 2 + 1)) ≡ to right
 
 rightmost : (k : ℕ) (f : Rule) → Turns-right k f → (m p : ℕ) → top m p ≡ k → Rightmost m k (way f m (ladder m p))
 unfolding ladder way last-such
@@ -176,7 +176,7 @@ reached W =
     record {
       a-set = its-set W (ladder W 0) (chain W 0) (chain-proper W) (ladder-entries W 0);
       has-reads = rw (chain-tree W) (omega (arith, rightmost-rows r));
-      add-reads = rw (chain-tree W) (add-ends r (entryFor k) (ends-at k w));
+      add-reads = λ serial. rw (chain-tree W) (add-ends r (entryFor k serial) (ends-at k w));
       del-reads = rw (chain-tree W) (del-ends r (ends-at k w));
       first-reads = rw (chain-tree W) (omega (arith, root-alone W 0));
       last-reads = rw (chain-tree W) (omega (arith, rightmost-rows (down-chain W (down right) (down-right k))));
@@ -195,13 +195,13 @@ child-read w s none-greater deepest = rw (none-greater, deepest) (omega arith)
 -- the tree of a parted chain, with n + 2 bits
 module _ (n : ℕ) where
   abbrev lone : Tree
-  lone = row 0 (entryFor (2 ^ suc n)) none none
+  lone = row 0 (entryFor (2 ^ suc n) 0) none none
 
   abbrev low-part : Tree
-  low-part = row 0 (entryFor 1) none (ladder n 1)
+  low-part = row 0 (entryFor 1 0) none (ladder n 1)
 
   abbrev parted : Tree
-  parted = row 0 (entryFor 0) low-part lone
+  parted = row 0 (entryFor 0 0) low-part lone
 
   pub less-one : suc (suc n) - 1 ≡ suc n
   less-one = omega arith
@@ -239,10 +239,10 @@ module _ (n : ℕ) where
       }
 
   abbrev root-step : Side → Step
-  root-step s = record { at = 0; entry = entryFor 0; turn = s; left-part = low-part; right-part = lone; below = suc n }
+  root-step s = record { at = 0; entry = entryFor 0 0; turn = s; left-part = low-part; right-part = lone; below = suc n }
 
   abbrev low-step : Step
-  low-step = record { at = 0; entry = entryFor 1; turn = right; left-part = none; right-part = ladder n 1; below = n }
+  low-step = record { at = 0; entry = entryFor 1 0; turn = right; left-part = none; right-part = ladder n 1; below = n }
 
   -- the right child's word is on the right, all the others but 0 are on the left
   right-side : side (suc n) (2 ^ suc n) ≡ right
@@ -314,13 +314,13 @@ module _ (n : ℕ) where
 
   -- the tree of a forked chain
   abbrev row-of-one : Tree
-  row-of-one = row 0 (entryFor 1) none none
+  row-of-one = row 0 (entryFor 1 0) none none
 
   abbrev fork : Tree
-  fork = row 0 (entryFor 0) row-of-one (ladder (suc n) 1)
+  fork = row 0 (entryFor 0 0) row-of-one (ladder (suc n) 1)
 
   abbrev fork-step : Step
-  fork-step = record { at = 0; entry = entryFor 0; turn = right; left-part = row-of-one; right-part = ladder (suc n) 1; below = suc n }
+  fork-step = record { at = 0; entry = entryFor 0 0; turn = right; left-part = row-of-one; right-part = ladder (suc n) 1; below = suc n }
 
   fork-lists : entries fork ≡ entriesFor (forked-chain (suc (suc n)))
   unfolding entries forked-chain
@@ -370,7 +370,7 @@ module _ (n : ℕ) where
   one-left : side (suc n) 1 ≡ left
   one-left = side-of-part (suc n) 1 0 left (on-root-path (suc n) 1 .0 (omega (arith, pow-pos n)))
 
-  own-hole : (i j : ℕ) (r : Tree) → erasing (suc (suc n)) 1 (row i (entryFor 0) (row j (entryFor 1) none none) r) .hole ≡ j
+  own-hole : (i j : ℕ) (r : Tree) → erasing (suc (suc n)) 1 (row i (entryFor 0 0) (row j (entryFor 1 0) none none) r) .hole ≡ j
   unfolding erasing way following down
   own-hole i j r = rw one-left
 
@@ -378,8 +378,8 @@ module _ (n : ℕ) where
   pub hole-of-one : {rows : ℕ → Row} {c : ℕ} {t : Tree} → Spelled rows c t → unnumbered t ≡ fork → rows (erasing (suc (suc n)) 1 t .hole) .entry .key ≡ 1
   unfolding unnumbered
   hole-of-one (a-row {i} {e} {r} s (a-row {i = j} {e = f} u no-row no-row) v) same =
-      let root : e ≡ entryFor 0 = cc in
-      let one : f ≡ entryFor 1 = cc in
+      let root : e ≡ entryFor 0 0 = cc in
+      let one : f ≡ entryFor 1 0 = cc in
       rw (root, one, own-hole i j r) (ap (λ x. x .entry .key) (u .as-told) ∙ ap (λ x. x .key) one)
   hole-of-one no-row same = let never : _≡_ {A = ℕ} 0 1 = cc in absurd (omega arith)
   hole-of-one (a-row s no-row v) same = let never : _≡_ {A = ℕ} 0 1 = cc in absurd (omega arith)

@@ -28,7 +28,7 @@ use Rattle.ordered.proofs.Answers.{ends-there, erasing-present}
 use Rattle.ordered.proofs.Unbroken.{erasing-unbroken}
 use Rattle.pretree.specs.declared.Header.{Header}
 use Rattle.pretree.specs.declared.Answer.the-variants.{Done, WordTooWide, Damage, NoSuchWord}
-use Rattle.pretree.specs.Answer.{numberOf, keyOf}
+use Rattle.pretree.specs.Answer.{numberOf, keyOf, serialOf, serialOf}
 use Rattle.pretree.specs.Table.{rowWords, capacity, rowAt, link, withLink, withRow, cleared}
 use Rattle.pretree.specs.Unfold.{unfolded, shown}
 use Rattle.pretree.specs.Reply.{wrong-header, too-wide, refused, answered}
@@ -458,14 +458,14 @@ module _ (h : Header) (table : List ℕ) (S : List Entry) (H : Holding h table S
   after-so present = table-after present moves ∙ ap (λ i. final present (not (eqb i last))) (hole-same present)
 
   pub keeps-del : (buffer : List ℕ) → KeepsDictionary after (Del k) h table buffer S
-  unfolding after expected kept-after changed numberOf keyOf
+  unfolding after expected kept-after changed numberOf keyOf serialOf
   keeps-del buffer = rw outcome-so (by-width (leb (2 ^ h .width) k) refl (e .present) (λ small. present-so small) bad (λ small there. never-bad (sym present-is ∙ present-so small ∙ there)))
     where
       said : Bool → Bool → Said
       said wide there = if wide then only 3 else if there then only 0 else only 8
 
       kept : Said → Kept
-      kept answer = if eqb (answer .number) 0 then record { width = h .width; set = delete k S; buffer = buffer } else keptBy h S buffer
+      kept answer = if eqb (answer .number) 0 || eqb (answer .number) 7 then record { width = h .width; set = delete k S; buffer = buffer } else keptBy h S buffer
 
       left-by : Outcome → After
       left-by o = record { reply = o .reply; table = o .table; buffer = buffer }

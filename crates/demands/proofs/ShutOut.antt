@@ -40,8 +40,8 @@ module _ (program : Program) (d : Demand2 program) where
   first-of-empty : KeepsDictionary program First (fresh 1) one-row [] []
   first-of-empty = d First (fresh 1) one-row [] [] (empty-held 1 one-row refl)
 
-  add-to-empty : KeepsDictionary program (Add 1) (fresh 1) one-row [] []
-  add-to-empty = d (Add 1) (fresh 1) one-row [] [] (empty-held 1 one-row refl)
+  add-to-empty : KeepsDictionary program (Add 1 0) (fresh 1) one-row [] []
+  add-to-empty = d (Add 1 0) (fresh 1) one-row [] [] (empty-held 1 one-row refl)
 
 -- the set of the word 0, which a cleared row holds
 abbrev one-word : Header
@@ -74,14 +74,14 @@ shut-out program =
       never-changes-the-table =
           λ same d.
           let k = add-to-empty program d in
-          let left : After = program (Add 1) (fresh 1) one-row [] in
+          let left : After = program (Add 1 0) (fresh 1) one-row [] in
           let its-header : left .reply .header ≡ one-word = ap₂ (λ w n. record { width = w; count = n }) (k .width) (sym (k .held .holds .number)) in
-          let held : HoldsSet one-word one-row (entryFor 1 ∷ []) =
-          subst (λ h. HoldsSet h one-row (entryFor 1 ∷ [])) its-header
-          (subst (λ t. HoldsSet (left .reply .header) t (entryFor 1 ∷ [])) (same (Add 1) (fresh 1) one-row []) (k .held .holds)) in
+          let held : HoldsSet one-word one-row (entryFor 1 0 ∷ []) =
+          subst (λ h. HoldsSet h one-row (entryFor 1 0 ∷ [])) its-header
+          (subst (λ t. HoldsSet (left .reply .header) t (entryFor 1 0 ∷ [])) (same (Add 1 0) (fresh 1) one-row []) (k .held .holds)) in
           omega (arith, ap (λ es. getD (words es) 0 0) (one-tree-each .its-entries held));
       first-call-alone =
-          λ same d. omega (arith, add-to-empty program d .held .holds .number, ap (λ h. h .count) (same (Add 1) (fresh 1) one-row []));
+          λ same d. omega (arith, add-to-empty program d .held .holds .number, ap (λ h. h .count) (same (Add 1 0) (fresh 1) one-row []));
       invents-its-counts =
           λ n same exact.
           omega (arith, new-reads program exact, first-reads program exact, same (New 1) (fresh 1) one-row [], same First one-word one-row []);

@@ -22,7 +22,7 @@ use Rattle.pretree.specs.declared.Row.{Row}
 use Rattle.pretree.specs.Table.{rowWords, rowAt, toCode, link}
 use Rattle.pretree.specs.Unfold.{ends-there, linked, unfolded, shown}
 use Rattle.pretree.proofs.Rows.{rowAsWords, each-in-row, row-read}
-use Rattle.demands.specs.SoundIs.{EverySetHasRows}
+use Rattle.demands.specs.SoundIs.{serials, EverySetHasRows}
 use Rattle.demands.proofs.Unfolding.{both, key, hanging, shown-row}
 use Rattle.demands.proofs.SoundIs.{set-fits, tree-intact, tree-entries, held-by-entries}
 
@@ -154,10 +154,10 @@ table-shows zero (x ∷ xs) rest rising below = rw eqb·suc-zero (root-shows zer
 table-shows (suc W) [] rest rising below = refl
 table-shows (suc W) (x ∷ xs) rest rising below = rw eqb·suc-zero (root-shows (suc W) (x ∷ xs) rest rising below refl)
 
--- a word of a set's rows is a key or the number of a row
-module _ (W n : ℕ) where
+-- a word of a set's rows is a key, the number of a row or a serial of the set
+module _ (W n : ℕ) (S : List Entry) where
   abbrev Word : ℕ → Type 0
-  Word w = (w < 2 ^ W) ⊎ (w < n)
+  Word w = (w < 2 ^ W) ⊎ ((w < n) ⊎ (w ∈ serials S))
 
   link-small : (k : ℕ) (t : Tree) → intact t ≡ true → suc k + size t ≤ n → link-to (suc k) t < n
   unfolding intact size
@@ -165,20 +165,26 @@ module _ (W n : ℕ) where
   link-small k (row i e l r) whole room = omega arith
   link-small k damaged whole room = absurd (false≢true whole)
 
-  written-words : (k : ℕ) (t : Tree) → intact t ≡ true → ((x : ℕ) → x ∈ listing t → x < 2 ^ W) → k + size t ≤ n → All Word (written k t)
+  written-words : (k : ℕ) (t : Tree) → intact t ≡ true → ((e : Entry) → e ∈ entries t → (e .key < 2 ^ W) × (e .serial ∈ serials S)) → k + size t ≤ n → All Word (written k t)
   unfolding written entries intact size
   written-words k none whole small room = none-all
   written-words k (row i e l r) whole small room =
       let b = both (intact l) (intact r) whole in
-      let below : (x : ℕ) → x ∈ listing l ++ listing r → x < 2 ^ W =
-      λ x there. small x (List·Memᴰ·tail (rw (words-append (entries l) (entries r)) there)) in
       all-append
-      (each-in-row Word (row-of k e l r) (inl (small (e .key) (List·Memᴰ·head refl)))
-      (elim [ left ↦ inr (link-small k l (b .0) (omega arith)) | right ↦ inr (link-small (k + size l) r (b .1) (omega arith)) ]))
+      (each-in-row Word (row-of k e l r) (inl (small e (List·Memᴰ·head refl) .0)) (inr (inr (small e (List·Memᴰ·head refl) .1)))
+      (elim [ left ↦ inr (inl (link-small k l (b .0) (omega arith))) | right ↦ inr (inl (link-small (k + size l) r (b .1) (omega arith))) ]))
       (all-append
-      (written-words (place left k l) l (b .0) (λ x there. below x (Memᴰ·append-left (listing r) there)) (omega arith))
-      (written-words (place right k l) r (b .1) (λ x there. below x (Memᴰ·append-right (listing l) there)) (omega arith)))
+      (written-words (place left k l) l (b .0) (λ f there. small f (List·Memᴰ·tail (Memᴰ·append-left (entries r) there))) (omega arith))
+      (written-words (place right k l) r (b .1) (λ f there. small f (List·Memᴰ·tail (Memᴰ·append-right (entries l) there))) (omega arith)))
   written-words k damaged whole small room = none-all
+
+word-in : (e : Entry) (S : List Entry) → e ∈ S → e .key ∈ words S
+word-in e (f ∷ S) (List·Memᴰ·head same) = List·Memᴰ·head (ap (λ x. x .key) same)
+word-in e (f ∷ S) (List·Memᴰ·tail there) = List·Memᴰ·tail (word-in e S there)
+
+serial-in : (e : Entry) (S : List Entry) → e ∈ S → e .serial ∈ serials S
+serial-in e (f ∷ S) (List·Memᴰ·head same) = List·Memᴰ·head (ap (λ x. x .serial) same)
+serial-in e (f ∷ S) (List·Memᴰ·tail there) = List·Memᴰ·tail (serial-in e S there)
 
 pub every-set-has-rows : EverySetHasRows
 every-set-has-rows W S rest rising below =
@@ -192,8 +198,10 @@ every-set-has-rows W S rest rising below =
       each-word =
           λ w there.
           each-of-all
-          (written-words W (length S) 0 (treeOf W S) (proper-intact W 0 0 (treeOf W S) (set-proper W 0 0 S rising fits))
-          (λ x. rw (← set-entries W 0 0 S rising fits) at (below x)) (omega (arith, set-size W S rising below)))
+          (written-words W (length S) S 0 (treeOf W S) (proper-intact W 0 0 (treeOf W S) (set-proper W 0 0 S rising fits))
+          (λ e there.
+          let in-set : e ∈ S = rw (set-entries W 0 0 S rising fits) at there in
+          (below (e .key) (word-in e S in-set), serial-in e S in-set)) (omega (arith, set-size W S rising below)))
           there;
       held = held-by-entries h table (tree-intact h table S rising below tree) (tree-entries h table S rising below tree) refl;
     }

@@ -20,7 +20,7 @@ use Rattle.pretree.specs.declared.Reply.{Reply}
 use Rattle.pretree.specs.Table.{rowWords, capacity, rowAt, withRow, cleared}
 use Rattle.pretree.specs.Unfold.{shown}
 use Rattle.pretree.specs.Reply.{wrong-width, wrong-header, too-wide}
-use Rattle.pretree.specs.Find.{done, word, read-reply, hasReply, nextReply, prevReply, gapReply, firstReply, lastReply}
+use Rattle.pretree.specs.Find.{serial as say-serial, word, read-reply, hasReply, nextReply, prevReply, gapReply, firstReply, lastReply}
 use Rattle.pretree.specs.Whole.{newReply, newTable, auditReply, listReply}
 use Rattle.pretree.specs.Sound.{isSound}
 use Rattle.pretree.specs.Add.{entryFor, Outcome, addOutcome}
@@ -32,7 +32,7 @@ use Rattle.pretree.specs.declared.Call.the-variants.{New, Add, Del, Has, Next, 
 use Rattle.pretree.specs.Call.{after}
 use Rattle.demands.specs.Refusals.{SameFrom}
 use Rattle.demands.specs.Zeros.{LaterZeros, ZerosKept}
-use Rattle.demands.proofs.Owned.{by-test, new-kept, added, removed, added-kept, removed-kept, add-outcome, del-outcome}
+use Rattle.demands.proofs.Owned.{stored, stored-kept, by-test, new-kept, added, removed, added-kept, removed-kept, add-outcome, del-outcome}
 
 -- "it clears every row"
 cleared-word : (table : List ℕ) (w p : ℕ) → wrong-width w ≡ false → p < rowWords * capacity table → getD (newTable table w) p 0 ≡ 0
@@ -73,6 +73,7 @@ module _ (h : Header) (table : List ℕ) (zeros : LaterZeros h table) where
   zeros-add : (new : Entry) → Left (addOutcome h table new)
   zeros-add new =
       add-outcome h table new Left unchanged
+      (λ fits there. still-zeros (h .count) (omega arith) (stored h table new .table) (stored-kept h table new (h .count) (omega arith)))
       (λ room. still-zeros (suc (h .count)) (omega arith) (added h table new .table) (added-kept h table new (suc (h .count)) (omega arith)))
 
   module _ (k : ℕ) where
@@ -100,9 +101,9 @@ module _ (h : Header) (table : List ℕ) (zeros : LaterZeros h table) where
       by-cases : (b : Bool) → wrong-width w ≡ b → LaterZeros (newReply h w .header) (newTable table w)
       by-cases true wrong = rw wrong zeros
       by-cases false right = new-zeros w h table right
-  call-zeros (Add k) buffer = zeros-add (entryFor k)
+  call-zeros (Add k serial) buffer = zeros-add (entryFor k serial)
   call-zeros (Del k) buffer = zeros-del k
-  call-zeros (Has k) buffer = read-zeros (too-wide h k) done (has (h .width) k (shown h table))
+  call-zeros (Has k) buffer = read-zeros (too-wide h k) say-serial (has (h .width) k (shown h table))
   call-zeros (Next k) buffer = read-zeros (too-wide h k) word (next (h .width) k (shown h table))
   call-zeros (Prev k) buffer = read-zeros (too-wide h k) word (prev (h .width) k (shown h table))
   call-zeros (Gap k) buffer = read-zeros (too-wide h k) Distance (gap (h .width) k (shown h table))

@@ -67,14 +67,17 @@ module _ (t b : Loan) where
   abbrev with-number : Header → List ℕ → ℕ → Header × (RefT (List ℕ) × (ℕ × Unit {0}))
   with-number h table k = (h, (table-of table, (k, tt)))
 
+  abbrev with-two : Header → List ℕ → ℕ → ℕ → Header × (RefT (List ℕ) × (ℕ × (ℕ × Unit {0})))
+  with-two h table k serial = (h, (table-of table, (k, (serial, tt))))
+
   abbrev with-buffer : Header → List ℕ → List ℕ → Header × (RefT (List ℕ) × (RefT (List ℕ) × Unit {0}))
   with-buffer h table buffer = (h, (table-of table, (buffer-of buffer, tt)))
 
   unfoldable pub Contract : Call → Header → List ℕ → List ℕ → After → Type 0
   Contract (New W) h table buffer a =
       says new.ended new.Reads.Post one-loan (with-number h table W) (a .reply) (tt, (a .table, (tt, tt))) × (a .buffer ≡ buffer)
-  Contract (Add k) h table buffer a =
-      says add.ended add.Reads.Post one-loan (with-number h table k) (a .reply) (tt, (a .table, (tt, tt))) × (a .buffer ≡ buffer)
+  Contract (Add k serial) h table buffer a =
+      says add.ended add.Reads.Post one-loan (with-two h table k serial) (a .reply) (tt, (a .table, (tt, (tt, tt)))) × (a .buffer ≡ buffer)
   Contract (Del k) h table buffer a =
       says del.ended del.Reads.Post one-loan (with-number h table k) (a .reply) (tt, (a .table, (tt, tt))) × (a .buffer ≡ buffer)
   Contract (Has k) h table buffer a =
@@ -97,7 +100,7 @@ module _ (t b : Loan) where
   -- what a call's function asks of its caller
   unfoldable pub Requires : Call → Header → List ℕ → List ℕ → Type 0
   Requires (New W) h table buffer = new.Reads.Asked one-loan (with-number h table W)
-  Requires (Add k) h table buffer = add.Reads.Asked one-loan (with-number h table k)
+  Requires (Add k serial) h table buffer = add.Reads.Asked one-loan (with-two h table k serial)
   Requires (Del k) h table buffer = del.Reads.Asked one-loan (with-number h table k)
   Requires (Has k) h table buffer = has.Reads.Asked one-loan (with-number h table k)
   Requires (Next k) h table buffer = next.Reads.Asked one-loan (with-number h table k)

@@ -122,7 +122,7 @@ SecondDamage h table = DamageRead h table (wayOf (last-key h table) h table ∷ 
 -- any way it needs would." (For `audit` and `list`, 4 means not sound; `new` reads no row.)
 unfoldable pub DamageOn : Call → Header → List ℕ → Type 0
 DamageOn (New w) h table = ⊥
-DamageOn (Add k) h table = DamageRead h table (adding (h .width) (entryFor k) (named h table) .rows-read ∷ [])
+DamageOn (Add k serial) h table = DamageRead h table (adding (h .width) (entryFor k serial) (named h table) .rows-read ∷ [])
 DamageOn (Del k) h table =
     DamageRead h table (erasing (h .width) k (named h table) .rows-read ∷ []) ⊎ (Moves k h table × SecondDamage h table)
 DamageOn (Has k) h table = DamageRead h table (has (h .width) k (named h table) .ways)
@@ -134,10 +134,11 @@ DamageOn Last h table = DamageRead h table (last (h .width) (named h table) .way
 DamageOn Audit h table = ⊥
 DamageOn Call.List h table = ⊥
 
--- A test: "One row 4, 0, 9 with W 4 and count 1: `has` 4 found, 1 row; `has` 8 answers 4": a link that no way follows is no damage
+-- A test: "One row 4, 0, 9 with W 4 and count 1: `has` 4 found, 1 row; `has` 8 answers 4": a link that no way follows is no damage.
+-- Document 02 §1 makes it four words; the serial is 0 here
 pub record OneRow : Type 0 where
-  pub has-4 : ¬ DamageOn (Has 4) (record { width = 4; count = 1 }) (4 ∷ 0 ∷ 9 ∷ [])
-  pub has-8 : DamageOn (Has 8) (record { width = 4; count = 1 }) (4 ∷ 0 ∷ 9 ∷ [])
+  pub has-4 : ¬ DamageOn (Has 4) (record { width = 4; count = 1 }) (4 ∷ 0 ∷ 9 ∷ 0 ∷ [])
+  pub has-8 : DamageOn (Has 8) (record { width = 4; count = 1 }) (4 ∷ 0 ∷ 9 ∷ 0 ∷ [])
 
 -- A table that holds a set has no damage.
 abbrev pub NoneInSets : Type 0

@@ -11,7 +11,7 @@ use Rattle.ordered.specs.Said.{_∈_}
 use Rattle.pretree.specs.declared.Header.{Header}
 use Rattle.pretree.specs.declared.Reply.{Reply}
 use Rattle.pretree.specs.declared.Call.{Call}
-use Rattle.pretree.specs.Answer.{numberOf, keyOf}
+use Rattle.pretree.specs.Answer.{numberOf, keyOf, serialOf}
 use Rattle.pretree.specs.Table.{rowWords, capacity}
 use Rattle.pretree.specs.Reply.{fresh, wrong-width, wrong-header}
 use Rattle.pretree.specs.Call.{After}
@@ -24,9 +24,9 @@ pub record Holding (h : Header) (table : List ℕ) (S : List Entry) : Type 0 whe
   pub right-header : wrong-header h table ≡ false
   pub holds : HoldsSet h table S
 
--- document 01's number and key of a reply
+-- the number, the key and the serial of a reply
 abbrev pub saidIn : Reply → Said
-saidIn r = record { number = numberOf (r .answer); key = keyOf (r .answer) }
+saidIn r = record { number = numberOf (r .answer); key = keyOf (r .answer); serial = serialOf (r .answer) }
 
 -- the reply r and what it leaves are those of the dictionary, where it said `said` and keeps `kept`
 pub record Keeps (said : Said) (kept : Kept) (table : List ℕ) (left : After) : Type 0 where

@@ -1,7 +1,8 @@
--- What the ordered dictionary says to each call on a set S of words of width W: the answer's number and key, and the set that it leaves.
+-- What the ordered dictionary says to each call on a set S of words of width W: the answer's number, key and serial, and the set that it leaves.
 -- Document 01: "The meaning of the operations is the ordered dictionary of source document 004; `new` (an empty set), `gap`, `audit`, `list`
 -- and the answers 7 and 8 are set here, over the same set." On a sound table 2 and 4 are never given, so they are not named here.
 use Prim.Native.Nat.{ℕ, _^_}
+use mathlib.Core.Bool.{_||_}
 use mathlib.Core.List.{List, [], _∷_, _++_}
 use lib.Dec.{ltb, leb, eqb}
 use lib.ListN.{length, drop}
@@ -17,14 +18,20 @@ use Rattle.demands.specs.Program.{Asked}
 pub record Said : Type 0 where
   pub number : ℕ
   pub key : Perhaps ℕ
+  pub serial : Perhaps ℕ
 
--- a number with no key
+-- a number with no key and no serial
 abbrev pub only : ℕ → Said
-only n = record { number = n; key = no-such }
+only n = record { number = n; key = no-such; serial = no-such }
+
+-- "the serial for a `has` that found its word", or 8
+abbrev pub found : Perhaps Entry → Said
+found (such e) = record { number = 0; key = no-such; serial = such (e .serial) }
+found no-such = only 8
 
 -- "the word for `next`, `prev`, `first`, `last`; the distance for `gap`", or 8: "no such word", "empty set"
 abbrev pub word : Perhaps ℕ → Said
-word (such x) = record { number = 0; key = such x }
+word (such x) = record { number = 0; key = such x; serial = no-such }
 word no-such = only 8
 
 -- 3: "k is 2^W or more"
@@ -44,10 +51,10 @@ lending buffer s = record { width = s .width; set = s .set; buffer = buffer }
 -- the answer, where the table has room for `capacity` words
 unfoldable pub expected : Call → ℕ → Kept → Said
 expected (New w) capacity s = if wrong-width w then only 1 else only 0
-expected (Add k) capacity s =
+expected (Add k serial) capacity s =
     of-width (s .width) k (if isThere (lookup k (s .set)) then only 7 else if eqb (length (s .set)) capacity then only 5 else only 0)
 expected (Del k) capacity s = of-width (s .width) k (if isThere (lookup k (s .set)) then only 0 else only 8)
-expected (Has k) capacity s = of-width (s .width) k (if isThere (lookup k (s .set)) then only 0 else only 8)
+expected (Has k) capacity s = of-width (s .width) k (found (lookup k (s .set)))
 expected (Next k) capacity s = of-width (s .width) k (word (wordOf (successor k (s .set))))
 expected (Prev k) capacity s = of-width (s .width) k (word (wordOf (predecessor k (s .set))))
 expected (Gap k) capacity s =
@@ -62,7 +69,7 @@ expected Call.List capacity s = if ltb (length (s .buffer)) (length (s .set)) th
 -- "`list` writes it to a lent buffer of 32-bit words and leaves the rest of the buffer"
 unfoldable pub changed : Call → Kept → Kept
 changed (New w) s = record { width = w; set = []; buffer = s .buffer }
-changed (Add k) s = record { width = s .width; set = insert (entryFor k) (s .set); buffer = s .buffer }
+changed (Add k serial) s = record { width = s .width; set = insert (entryFor k serial) (s .set); buffer = s .buffer }
 changed (Del k) s = record { width = s .width; set = delete k (s .set); buffer = s .buffer }
 changed (Has k) s = s
 changed (Next k) s = s
@@ -73,9 +80,12 @@ changed Last s = s
 changed Audit s = s
 changed Call.List s = record { width = s .width; set = s .set; buffer = words (s .set) ++ drop (length (s .set)) (s .buffer) }
 
--- "1 to 6 and 9 are refusals: [..] header, table and buffer untouched. 7 and 8 [..] change nothing."
+-- "1 to 6 and 9 are refusals: [..] header, table and buffer untouched." Document 02 §1: "An `add` of a word already there still answers 7, but now
+-- stores the new serial." 8 changes nothing.
 unfoldable pub kept-after : Call → ℕ → Kept → Kept
-kept-after c capacity s = if eqb (expected c capacity s .number) 0 then changed c s else s
+kept-after c capacity s =
+    let number : ℕ = expected c capacity s .number in
+    if eqb number 0 || eqb number 7 then changed c s else s
 
 -- what the dictionary keeps after a call and after a list of calls, each with the buffer lent with it
 abbrev pub kept-after-call : Asked → ℕ → Kept → Kept

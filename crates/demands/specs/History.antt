@@ -5,6 +5,7 @@ use mathlib.Core.Path.{_≡_}
 use mathlib.Core.Bool.{false}
 use mathlib.Core.List.{List}
 use lib.ListN.{length}
+use Rattle.ordered.specs.Dictionary.{words}
 use Rattle.pretree.specs.declared.Call.{Call}
 use Rattle.pretree.specs.Table.{capacity}
 use Rattle.pretree.specs.Reply.{wrong-width}
@@ -33,11 +34,12 @@ module _ (program : Program) where
 
   -- "So two histories that end with the same words and width in tables of equal length give the same counts, save the count for moving a row
   -- at an erase.": a history is any list of calls on an empty set, with a `new` of other widths, refusals, `audit` and `list` among them.
+  -- The serials may differ.
   abbrev pub TwoHistories : Type 0
   TwoHistories =
       (cs cs′ : List Asked) (W W′ : ℕ) (table table′ : List ℕ) → wrong-width W ≡ false → wrong-width W′ ≡ false → length table ≡ length table′
       → kept-at-end cs (capacity table) (empty-kept W) .width ≡ kept-at-end cs′ (capacity table′) (empty-kept W′) .width
-      → kept-at-end cs (capacity table) (empty-kept W) .set ≡ kept-at-end cs′ (capacity table′) (empty-kept W′) .set
+      → words (kept-at-end cs (capacity table) (empty-kept W) .set) ≡ words (kept-at-end cs′ (capacity table′) (empty-kept W′) .set)
       → (c : Call) (buffer buffer′ : List ℕ) → length buffer ≡ length buffer′
       → outcome program (record { call = c; buffer = buffer }) (end-state program cs (empty-state W table)) .reply .rows
       ≡ outcome program (record { call = c; buffer = buffer′ }) (end-state program cs′ (empty-state W′ table′)) .reply .rows

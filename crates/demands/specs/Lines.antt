@@ -30,7 +30,7 @@ pub data Kind : Type 0 where
 
 abbrev pub kindOf : Call → Kind
 kindOf (New w) = makes
-kindOf (Add k) = works
+kindOf (Add k serial) = works
 kindOf (Del k) = works
 kindOf (Has k) = works
 kindOf (Next k) = works
@@ -49,9 +49,9 @@ finds-no-set works width = eqb width 0
 
 -- "header W 0": a reply with the number 2
 abbrev pub noSet : ReplyFields
-noSet = record { answer = 2; key = Nothing; rows = 0; moved = 0 }
+noSet = record { answer = 2; key = Nothing; rows = 0; moved = 0; serial = Nothing }
 
--- what the reply line says to a call on a set: the dictionary's number and key; the rows of its ways over the PreTree of the set; and the
+-- what the reply line says to a call on a set: the dictionary's number, key and serial; the rows of its ways over the PreTree of the set; and the
 -- moving count, which depends on the table
 abbrev pub fields-on-set : Call → State → Kept → ReplyFields
 fields-on-set c s k =
@@ -61,6 +61,7 @@ fields-on-set c s k =
       key = asNumber (expected c 4096 k .key);
       rows = if refused then 0 else rowsOver c (k .width) (k .set);
       moved = if refused then 0 else movedOver c (s .header) (s .table) (k .set);
+      serial = asNumber (expected c 4096 k .serial);
     }
 
 -- "After a `list` with answer 0 come lines `key`, tab, word."

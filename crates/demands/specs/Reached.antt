@@ -30,10 +30,10 @@ parted-chain W = 0 ∷ 1 ∷ (chain (W - 2) 1 ++ (2 ^ (W - 1) ∷ []))
 unfoldable pub forked-chain : ℕ → List ℕ
 forked-chain W = 0 ∷ 1 ∷ chain (W - 1) 1
 
--- the set that an `add` of each word makes
+-- the set that an `add` of each word makes, with the serial 0
 abbrev pub entriesFor : List ℕ → List Entry
 entriesFor [] = []
-entriesFor (x ∷ xs) = entryFor x ∷ entriesFor xs
+entriesFor (x ∷ xs) = entryFor x 0 ∷ entriesFor xs
 
 -- the words of a set of the width W
 pub record SetOf (W : ℕ) (S : List ℕ) : Type 0 where
@@ -44,7 +44,7 @@ pub record SetOf (W : ℕ) (S : List ℕ) : Type 0 where
 pub record Reached (W : ℕ) : Type 0 where
   pub a-set : SetOf W (chain W 0)
   pub has-reads : rowsOver (Has (2 ^ W - 1)) W (entriesFor (chain W 0)) ≡ W + 1
-  pub add-reads : rowsOver (Add (2 ^ W - 1)) W (entriesFor (chain W 0)) ≡ W + 1
+  pub add-reads : (serial : ℕ) → rowsOver (Add (2 ^ W - 1) serial) W (entriesFor (chain W 0)) ≡ W + 1
   pub del-reads : rowsOver (Del (2 ^ W - 1)) W (entriesFor (chain W 0)) ≡ W + 1
   pub first-reads : rowsOver First W (entriesFor (chain W 0)) ≡ 1
   pub last-reads : rowsOver Last W (entriesFor (chain W 0)) ≡ W + 1
@@ -61,7 +61,7 @@ asked c = record { call = c; buffer = [] }
 
 unfoldable pub adds : List ℕ → List Asked
 adds [] = []
-adds (x ∷ xs) = asked (Add x) ∷ adds xs
+adds (x ∷ xs) = asked (Add x 0) ∷ adds xs
 
 abbrev pub making : ℕ → List ℕ → List Asked
 making W S = asked (New W) ∷ adds S
@@ -87,7 +87,7 @@ module _ (program : Program) where
   -- at every width that a header may have
   pub record ReachedByCalls (W : ℕ) : Type 0 where
     pub has-reads : ReadOnce rows-read W (chain W 0) (Has (2 ^ W - 1)) (W + 1)
-    pub add-reads : ReadOnce rows-read W (chain W 0) (Add (2 ^ W - 1)) (W + 1)
+    pub add-reads : (serial : ℕ) → ReadOnce rows-read W (chain W 0) (Add (2 ^ W - 1) serial) (W + 1)
     pub del-reads : ReadOnce rows-read W (chain W 0) (Del (2 ^ W - 1)) (W + 1)
     pub first-reads : ReadOnce rows-read W (chain W 0) First 1
     pub last-reads : ReadOnce rows-read W (chain W 0) Last (W + 1)
@@ -111,7 +111,7 @@ module _ (program : Program) where
   -- at the width 1, where a set has two words at most: a move takes three rows.
   pub record LeastBounds (W : ℕ) : Type 0 where
     pub has-bound : LeastBound rows-read Has W (W + 1)
-    pub add-bound : LeastBound rows-read Add W (W + 1)
+    pub add-bound : (serial : ℕ) → LeastBound rows-read (λ k. Add k serial) W (W + 1)
     pub del-bound : LeastBound rows-read Del W (W + 1)
     pub first-bound : LeastBound rows-read (λ k. First) W 1
     pub last-bound : LeastBound rows-read (λ k. Last) W (W + 1)

@@ -1,17 +1,17 @@
 -- Demand 1. Document 01: "1 to 6 and 9 are refusals: counts 0, header, table and buffer untouched. 7 and 8 report their true counts and
--- change nothing. Order: 9, 1, 2, 3, 4, then 7 or 8, then 5. For `list`: 2, 4, 6." (9 is the program's, not a call's.)
+-- change nothing." Document 02 §1 "amends document 01's rule that 7 changes nothing". Document 01: "Order: 9, 1, 2, 3, 4, then 7 or 8, then 5. For `list`: 2, 4, 6." (9 is the program's, not a call's.)
 use Prim.Native.Nat.{ℕ, _*_, _^_, _≤_, _<_}
 use mathlib.Core.Path.{_≡_}
 use mathlib.Core.Logic.{_↔_, _⊎_}
 use mathlib.Core.List.{List, [], _∷_, _++_}
 use lib.ListN.{length, getD}
-use Rattle.ordered.specs.Way.{Way}
+use Rattle.ordered.specs.Way.{Way, way, following}
 use Rattle.ordered.specs.Reading.{rowsOf}
 use Rattle.ordered.specs.Reading.{has as reading-has, next as reading-next, prev as reading-prev, gap as reading-gap, first as reading-first, last as reading-last}
-use Rattle.ordered.specs.Change.{adding, erasing}
+use Rattle.ordered.specs.Change.{adding, erasing, numberAt}
 use Rattle.pretree.specs.declared.Header.{Header}
 use Rattle.pretree.specs.Answer.{numberOf}
-use Rattle.pretree.specs.Table.{rowWords, capacity}
+use Rattle.pretree.specs.Table.{rowWords, capacity, rowAt, withSerial}
 use Rattle.pretree.specs.Unfold.{shown}
 use Rattle.pretree.specs.Sound.{Sound}
 use Rattle.pretree.specs.Add.{entryFor}
@@ -24,7 +24,7 @@ use Rattle.demands.specs.Damage.{DamageOn, Absent}
 -- the ways of a call, whose rows are its count; the second way of `del` has a count of its own, and the other calls go no way
 unfoldable pub waysOf : Call → Header → List ℕ → List Way
 waysOf (New W) h table = []
-waysOf (Add k) h table = adding (h .width) (entryFor k) (shown h table) .rows-read ∷ []
+waysOf (Add k serial) h table = adding (h .width) (entryFor k serial) (shown h table) .rows-read ∷ []
 waysOf (Del k) h table = erasing (h .width) k (shown h table) .rows-read ∷ []
 waysOf (Has k) h table = reading-has (h .width) k (shown h table) .ways
 waysOf (Next k) h table = reading-next (h .width) k (shown h table) .ways
@@ -68,7 +68,7 @@ header-checks h table = 2 when Wrong-header h table ∷ []
 -- (7 comes before 5 because 5 is for an absent word.)
 unfoldable pub checks : Call → Header → List ℕ → List ℕ → List Check
 checks (New W) h table buffer = 1 when Wrong-width W ∷ []
-checks (Add k) h table buffer = header-checks h table ++ 3 when Too-wide h k ∷ 4 when DamageOn (Add k) h table ∷ 5 when Full k h table ∷ []
+checks (Add k serial) h table buffer = header-checks h table ++ 3 when Too-wide h k ∷ 4 when DamageOn (Add k serial) h table ∷ 5 when Full k h table ∷ []
 checks (Del k) h table buffer = header-checks h table ++ 3 when Too-wide h k ∷ 4 when DamageOn (Del k) h table ∷ []
 checks (Has k) h table buffer = header-checks h table ++ 3 when Too-wide h k ∷ 4 when DamageOn (Has k) h table ∷ []
 checks (Next k) h table buffer = header-checks h table ++ 3 when Too-wide h k ∷ 4 when DamageOn (Next k) h table ∷ []
@@ -96,6 +96,31 @@ pub record Untouched (h : Header) (table buffer : List ℕ) (a : After) : Type 0
   pub same-buffer : a .buffer ≡ buffer
   pub none-moved : a .reply .moved ≡ 0
 
+-- "An `add` of a word already there still answers 7, but now stores the new serial. [..] header, keys and links stay." One word of the table may
+-- change: the serial of the row of k, at which the way of k ends.
+pub record Stored (k serial : ℕ) (h : Header) (table buffer : List ℕ) (a : After) : Type 0 where
+  pub row : ℕ
+  pub on-the-way : numberAt (way (following k) (h .width) (shown h table) .end) ≡ row
+  pub its-word : rowAt table row .entry .key ≡ k
+  pub same-header : a .reply .header ≡ h
+  pub new-table : a .table ≡ withSerial row serial table
+  pub same-buffer : a .buffer ≡ buffer
+  pub none-moved : a .reply .moved ≡ 0
+
+-- no other call answers 7
+unfoldable pub SerialStored : Call → Header → List ℕ → List ℕ → After → Type 0
+SerialStored (Add k serial) h table buffer a = Stored k serial h table buffer a
+SerialStored (New W) h table buffer a = ⊥
+SerialStored (Del k) h table buffer a = ⊥
+SerialStored (Has k) h table buffer a = ⊥
+SerialStored (Next k) h table buffer a = ⊥
+SerialStored (Prev k) h table buffer a = ⊥
+SerialStored (Gap k) h table buffer a = ⊥
+SerialStored First h table buffer a = ⊥
+SerialStored Last h table buffer a = ⊥
+SerialStored Audit h table buffer a = ⊥
+SerialStored Call.List h table buffer a = ⊥
+
 -- no word from number n on is another, and there are as many words
 pub record SameFrom (n : ℕ) (words words′ : List ℕ) : Type 0 where
   pub same-length : length words′ ≡ length words
@@ -112,10 +137,14 @@ module _ (program : Program) where
     pub refusal :
         Refusal (numberAfter c h table buffer)
         → Untouched h table buffer (program c h table buffer) × (program c h table buffer .reply .rows ≡ 0)
-    -- "7 and 8 report their true counts and change nothing."
-    pub seven-eight :
+    -- "7 and 8 report their true counts"
+    pub true-counts :
         (numberAfter c h table buffer ≡ 7) ⊎ (numberAfter c h table buffer ≡ 8)
-        → Untouched h table buffer (program c h table buffer) × (program c h table buffer .reply .rows ≡ rowsOf (waysOf c h table))
+        → program c h table buffer .reply .rows ≡ rowsOf (waysOf c h table)
+    -- 8 changes nothing,
+    pub eight : numberAfter c h table buffer ≡ 8 → Untouched h table buffer (program c h table buffer)
+    -- and 7 stores the new serial and changes nothing else
+    pub seven : numberAfter c h table buffer ≡ 7 → SerialStored c h table buffer (program c h table buffer)
     -- "Words past the last whole row, or past that limit, are never changed."
     pub past-the-rows : SameFrom (rowWords * capacity table) table (program c h table buffer .table)
     -- "`list` [..] leaves the rest of the buffer"

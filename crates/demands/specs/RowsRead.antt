@@ -7,7 +7,7 @@ use mathlib.Core.List.{List}
 use lib.Dec.{ltb, leb, eqb}
 use lib.ListN.{length}
 use Rattle.ordered.specs.Such.{if_then_else_, isThere}
-use Rattle.ordered.specs.Dictionary.{Entry, lookup}
+use Rattle.ordered.specs.Dictionary.{words, Entry, lookup}
 use Rattle.ordered.specs.Tree.{treeOf}
 use Rattle.ordered.specs.Way.{rows, way, following}
 use Rattle.ordered.specs.Reading.{rowsOf, has as has-over, next as next-over, prev as prev-over, first as first-over, last as last-over, gap as gap-over}
@@ -27,7 +27,7 @@ use Rattle.demands.specs.SoundIs.{HoldsSet}
 -- the rows of the ways of a call over the PreTree of the words of S. "`new` reads no row"; `audit` and `list`: "Both count `count` rows."
 unfoldable pub rowsOver : Call → ℕ → List Entry → ℕ
 rowsOver (New w) W S = 0
-rowsOver (Add k) W S = rows (adding W (entryFor k) (treeOf W S) .rows-read)
+rowsOver (Add k serial) W S = rows (adding W (entryFor k serial) (treeOf W S) .rows-read)
 rowsOver (Del k) W S = rows (erasing W k (treeOf W S) .rows-read)
 rowsOver (Has k) W S = rowsOf (has-over W k (treeOf W S) .ways)
 rowsOver (Next k) W S = rowsOf (next-over W k (treeOf W S) .ways)
@@ -45,7 +45,7 @@ moves h table S k = isThere (lookup k S) && not (eqb (erasing (h .width) k (show
 -- "The rows of the second way", that of the last row's key, "are the moving count; it is 0 where nothing moves, and in every other call."
 unfoldable pub movedOver : Call → Header → List ℕ → List Entry → ℕ
 movedOver (New w) h table S = 0
-movedOver (Add k) h table S = 0
+movedOver (Add k serial) h table S = 0
 movedOver (Del k) h table S =
     let last-key : ℕ = rowAt table (pred (h .count)) .entry .key in
     if moves h table S k then rows (way (following last-key) (h .width) (treeOf (h .width) S))
@@ -62,7 +62,7 @@ movedOver Call.List h table S = 0
 -- what a call is refused for on a table that holds S, with room for so many rows, and a buffer of so many words: 1, 3, 5 and 6 alone
 unfoldable pub refusedOver : Call → ℕ → List Entry → ℕ → ℕ → Bool
 refusedOver (New w) W S room space = wrong-width w
-refusedOver (Add k) W S room space = leb (2 ^ W) k || (not (isThere (lookup k S)) && eqb (length S) room)
+refusedOver (Add k serial) W S room space = leb (2 ^ W) k || (not (isThere (lookup k S)) && eqb (length S) room)
 refusedOver (Del k) W S room space = leb (2 ^ W) k
 refusedOver (Has k) W S room space = leb (2 ^ W) k
 refusedOver (Next k) W S room space = leb (2 ^ W) k
@@ -91,18 +91,18 @@ module _ (program : Program) where
       → Reports (refusedOver c (h .width) S (capacity table) (length buffer)) (rowsOver c (h .width) S) (movedOver c h table S)
       (program c h table buffer .reply)
 
-  -- two tables of equal length that hold the same words at the same width, whatever their row numbers, give the same rows read
+  -- two tables of equal length that hold the same words at the same width, whatever their row numbers and serials, give the same rows read
   abbrev pub RowsAlike : Type 0
   RowsAlike =
-      (c : Call) (h h′ : Header) (table table′ buffer buffer′ : List ℕ) (S : List Entry)
+      (c : Call) (h h′ : Header) (table table′ buffer buffer′ : List ℕ) (S S′ : List Entry)
       → wrong-header h table ≡ false → wrong-header h′ table′ ≡ false
-      → HoldsSet h table S → HoldsSet h′ table′ S → h .width ≡ h′ .width → length table ≡ length table′ → length buffer ≡ length buffer′
+      → HoldsSet h table S → HoldsSet h′ table′ S′ → words S ≡ words S′ → h .width ≡ h′ .width → length table ≡ length table′ → length buffer ≡ length buffer′
       → program c h table buffer .reply .rows ≡ program c h′ table′ buffer′ .reply .rows
 
 -- the most rows that a call reads
 unfoldable pub mostRows : Call → Header → ℕ
 mostRows (New w) h = 0
-mostRows (Add k) h = h .width + 1
+mostRows (Add k serial) h = h .width + 1
 mostRows (Del k) h = h .width + 1
 mostRows (Has k) h = h .width + 1
 mostRows (Next k) h = h .width + 2
@@ -116,7 +116,7 @@ mostRows Call.List h = h .count
 -- and the most that it reads for a move
 unfoldable pub mostMoved : Call → Header → ℕ
 mostMoved (New w) h = 0
-mostMoved (Add k) h = 0
+mostMoved (Add k serial) h = 0
 mostMoved (Del k) h = h .width + 1
 mostMoved (Has k) h = 0
 mostMoved (Next k) h = 0

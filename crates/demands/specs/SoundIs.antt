@@ -4,14 +4,14 @@ use Prim.Native.Nat.{ℕ, _*_, _^_, _<_}
 use mathlib.Core.Path.{_≡_}
 use mathlib.Core.Logic.{_↔_, _⊎_}
 use mathlib.Core.Bool.{true}
-use mathlib.Core.List.{List, _++_}
+use mathlib.Core.List.{List, [], _∷_, _++_}
 use lib.Dec.{ltb}
 use lib.ListN.{length}
 use Rattle.ordered.specs.Such.{if_then_else_}
 use Rattle.ordered.specs.Dictionary.{Entry, words, Increasing}
 use Rattle.ordered.specs.Said.{_∈_}
 use Rattle.ordered.specs.Tree.{entries, unnumbered, treeOf}
-use Rattle.pretree.specs.Table.{rowWords}
+use Rattle.pretree.specs.Table.{rowWords, withSerial}
 use Rattle.pretree.specs.declared.Header.{Header}
 use Rattle.pretree.specs.Unfold.{shown}
 use Rattle.pretree.specs.Sound.{Sound, isSound}
@@ -42,12 +42,20 @@ pub record OneTree : Type 0 where
   -- so it is the only one
   pub one-set : {h : Header} {table : List ℕ} {S S′ : List Entry} → HoldsSet h table S → HoldsSet h table S′ → S ≡ S′
 
+-- "Sound" says nothing of serials: with another serial in any row a table is sound if and only if it was
+abbrev pub AnySerial : Type 0
+AnySerial = (h : Header) (table : List ℕ) (i serial : ℕ) → Sound h (withSerial i serial table) ↔ Sound h table
+
+abbrev pub serials : List Entry → List ℕ
+serials [] = []
+serials (e ∷ S) = e .serial ∷ serials S
+
 -- rows that hold the set S, whatever words follow them in the table
 pub record RowsOf (W : ℕ) (S : List Entry) (rest : List ℕ) : Type 0 where
   pub rows : List ℕ
   pub as-many : length rows ≡ rowWords * length S
-  -- each of their words is a word of the width or the number of a row
-  pub each-word : (w : ℕ) → w ∈ rows → (w < 2 ^ W) ⊎ (w < length S)
+  -- each of their words is a word of the width, the number of a row or a serial of S
+  pub each-word : (w : ℕ) → w ∈ rows → (w < 2 ^ W) ⊎ ((w < length S) ⊎ (w ∈ serials S))
   pub held : HoldsSet (record { width = W; count = length S }) (rows ++ rest) S
 
 -- There are such rows for every set of words of every width, so no promise about sound tables speaks of nothing

@@ -17,22 +17,14 @@ use Rattle.lines.specs.declared.session.Session.{Session as CodeSession}
 use Rattle.lines.specs.declared.session.Progress.{Progress}
 use Rattle.lines.specs.Answering.{stateOf, sessionOf, Answers, Feeds, FeedsFromHeld, Advances}
 use Rattle.lines.proofs.Tests.{either}
+use Rattle.lines.proofs.Finding.{until-first, until-later}
 use Rattle.lines.proofs.Puts.{put-then}
 use Rattle.lines.proofs.Pieces.{ended-here, ended-later, unended-here, unended-later, session-append, written-piece-append}
-use Rattle.lines.proofs.Gathering.{until-first, until-later, no-line-ends, held-none, parse-held}
+use Rattle.lines.proofs.Gathering.{no-line-ends, held-none, parse-held}
 
 -- a line reads the same from what is held of it
 pub parse-gathered : {buffer : List ℕ} {count : ℕ} {line : List ℕ} → HoldsLine buffer count line → parse (take count buffer) ≡ parse line
 parse-gathered {line} h = ap parse (h .content) ∙ parse-held line
-
-pub until-within : (input : List ℕ) → untilEnd input ≤ length input
-unfolding untilEnd
-until-within [] = omega arith
-until-within (b ∷ input) =
-    ⊎-elim
-    (λ (t : eqb b 10 ≡ true). omega (arith, until-first b input t))
-    (λ (f : eqb b 10 ≡ false). omega (arith, until-later b input f, until-within input))
-    (either (eqb b 10))
 
 -- an input up to the end of its first line
 one-line :
@@ -43,11 +35,11 @@ unfolding ended unended
 one-line line [] h = absurd (omega arith)
 one-line line (b ∷ input) h =
     ⊎-elim
-    (λ (t : eqb b 10 ≡ true). (rw (until-first b input t, append-nil) (ended-here line b [] t), rw (until-first b input t) (unended-here line b [] t)))
+    (λ (t : eqb b 10 ≡ true). (rw (until-first 10 b input t, append-nil) (ended-here line b [] t), rw (until-first 10 b input t) (unended-here line b [] t)))
     (λ (f : eqb b 10 ≡ false).
-    let r = one-line (line ++ b ∷ []) input (omega (arith, until-later b input f)) in (
-      rw (until-later b input f) (ended-later line b (take (suc (untilEnd input)) input) f ∙ r .0 ∙ rw append-assoc),
-      rw (until-later b input f) (unended-later line b (take (suc (untilEnd input)) input) f ∙ r .1),
+    let r = one-line (line ++ b ∷ []) input (omega (arith, until-later 10 b input f)) in (
+      rw (until-later 10 b input f) (ended-later line b (take (suc (untilEnd input)) input) f ∙ r .0 ∙ rw append-assoc),
+      rw (until-later 10 b input f) (unended-later line b (take (suc (untilEnd input)) input) f ∙ r .1),
     ))
     (either (eqb b 10))
 
@@ -114,7 +106,7 @@ pub record FeedLoop
   pub held : progress .session .held ≤ 65
   pub lines : progress .session .lines + from ≤ progress₀ .session .lines + progress .from
   pub few : progress₀ .session .lines + length piece < 2 ^ 64 + from
-  pub room : most ≡ 65 + 15 * length words
+  pub room : most ≡ 76 + 15 * length words
   pub enough : most ≤ length out
   pub table-size : length table ≡ length table₀
   pub words-size : length words ≡ length words₀

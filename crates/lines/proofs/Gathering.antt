@@ -7,42 +7,19 @@ use mathlib.Core.Logic.{⊎-elim}
 use native.Mathlib.Nat.{suc-sub-suc, sub-zero}
 use native.Mathlib.Numerals.{add-one}
 use native.Mathlib.Omega.{arith}
-use borrow.Author.Tests.{eq-eqb, ne-eqb, lt-ltb, le-ltb, ltb-true, ltb-false}
+use borrow.Author.Tests.{ltb-true, ltb-false}
 use lib.Dec.{ltb, eqb}
-use lib.ListN.{length, getD, take, drop, set, length-append, length-take, drop-of-length-le}
-use lib.Seq.{sets, sets-eq, drop-cons, take-suc, take-all, take-at, length-take-le}
-use Rattle.lines.specs.declared.Line.the-variants.{Unread}
+use lib.ListN.{length, getD, take, drop, set, length-append, length-take}
+use lib.Seq.{sets-eq, take-suc, take-all, take-at, length-take-le}
 use Rattle.lines.specs.Line.{parse}
 use Rattle.lines.specs.Render.{Put}
 use Rattle.lines.specs.Output.{ended, unended}
 use Rattle.lines.specs.Gather.{untilEnd, HoldsLine}
 use Rattle.lines.proofs.Tests.{either}
+use Rattle.lines.proofs.Finding.{until-first, until-later}
 use Rattle.lines.proofs.Heads.{long-unread}
-use Rattle.lines.proofs.Puts.{put-then, put-length, put-byte}
+use Rattle.lines.proofs.Puts.{put-then, put-byte}
 use Rattle.lines.proofs.Pieces.{ended-here, ended-later, unended-here, unended-later}
-
--- the byte at i ends the line or continues it, or there is no such byte
-module _ (input : List ℕ) (i : ℕ) where
-  pub until-none : length input ≤ i → untilEnd (drop i input) ≡ 0
-  unfolding untilEnd
-  until-none h = rw (drop-of-length-le input h)
-
-  module _ (within : i < length input) where
-    pub until-here : getD input i 0 ≡ 10 → untilEnd (drop i input) ≡ 0
-    unfolding untilEnd
-    until-here h = rw (drop-cons input i 0 within) (simp (eq-eqb (getD input i 0) 10 h))
-
-    pub until-on : (getD input i 0 ≡ 10 → ⊥) → untilEnd (drop i input) ≡ suc (untilEnd (drop (suc i) input))
-    unfolding untilEnd
-    until-on h = rw (drop-cons input i 0 within) (simp (ne-eqb (getD input i 0) 10 h))
-
-pub until-first : (b : ℕ) (input : List ℕ) → eqb b 10 ≡ true → untilEnd (b ∷ input) ≡ 0
-unfolding untilEnd
-until-first b input t = simp t
-
-pub until-later : (b : ℕ) (input : List ℕ) → eqb b 10 ≡ false → untilEnd (b ∷ input) ≡ suc (untilEnd input)
-unfolding untilEnd
-until-later b input f = simp f
 
 -- an input in which a line ends
 pub line-ends :
@@ -53,11 +30,11 @@ line-ends line [] h = absurd (omega arith)
 line-ends line (b ∷ input) h =
     ⊎-elim
     (λ (t : eqb b 10 ≡ true).
-    (rw (until-first b input t, append-nil) (ended-here line b input t), rw (until-first b input t) (unended-here line b input t)))
+    (rw (until-first 10 b input t, append-nil) (ended-here line b input t), rw (until-first 10 b input t) (unended-here line b input t)))
     (λ (f : eqb b 10 ≡ false).
-    let r = line-ends (line ++ b ∷ []) input (omega (arith, until-later b input f)) in (
-      rw (until-later b input f) (ended-later line b input f ∙ r .0 ∙ rw append-assoc),
-      rw (until-later b input f) (unended-later line b input f ∙ r .1),
+    let r = line-ends (line ++ b ∷ []) input (omega (arith, until-later 10 b input f)) in (
+      rw (until-later 10 b input f) (ended-later line b input f ∙ r .0 ∙ rw append-assoc),
+      rw (until-later 10 b input f) (unended-later line b input f ∙ r .1),
     ))
     (either (eqb b 10))
 
@@ -68,9 +45,9 @@ unfolding ended unended
 no-line-ends line [] h = (refl, sym (append-nil line))
 no-line-ends line (b ∷ input) h =
     ⊎-elim
-    (λ (t : eqb b 10 ≡ true). absurd (omega (arith, until-first b input t)))
+    (λ (t : eqb b 10 ≡ true). absurd (omega (arith, until-first 10 b input t)))
     (λ (f : eqb b 10 ≡ false).
-    let r = no-line-ends (line ++ b ∷ []) input (omega (arith, until-later b input f)) in
+    let r = no-line-ends (line ++ b ∷ []) input (omega (arith, until-later 10 b input f)) in
     (ended-later line b input f ∙ r .0, unended-later line b input f ∙ r .1 ∙ rw append-assoc))
     (either (eqb b 10))
 

@@ -14,7 +14,7 @@ use Rattle.pretree.specs.declared.Call.{Call}
 use Rattle.lines.specs.declared.Line.{Line}
 use Rattle.lines.specs.declared.Line.the-variants.{Unread}
 use Rattle.lines.specs.Text.{bytes}
-use Rattle.lines.specs.Line.{parse, afterWord, Form, with-number, alone, operations, firstRead, if-nothing, lineOf}
+use Rattle.lines.specs.Line.{parse, afterWord, Form, with-number, with-two-numbers, alone, operations, firstRead, if-nothing, lineOf}
 use Rattle.lines.specs.Head.{packed, headOf, afterHead, byHead}
 use Rattle.lines.proofs.Tests.{either, both}
 
@@ -29,6 +29,7 @@ isLong (a ∷ b ∷ c ∷ d ∷ word) = ltb a 256 && (ltb b 256 && (ltb c 256 &&
 abbrev allLong : List Form → Bool
 allLong [] = true
 allLong (with-number word call ∷ fs) = isLong (bytes word ++ bytes "\t") && allLong fs
+allLong (with-two-numbers word call ∷ fs) = isLong (bytes word ++ bytes "\t") && allLong fs
 allLong (alone word call ∷ fs) = isLong (bytes word) && allLong fs
 
 -- two ways to find what comes after a word read the same call if they agree on such words
@@ -37,6 +38,9 @@ pub same-read :
     → firstRead p fs ≡ firstRead q fs
 same-read p q h [] t = refl
 same-read p q h (with-number word call ∷ fs) t =
+    let b = both (isLong (bytes word ++ bytes "\t")) (allLong fs) t in
+    rw (h (bytes word ++ bytes "\t") (b .0), same-read p q h fs (b .1))
+same-read p q h (with-two-numbers word call ∷ fs) t =
     let b = both (isLong (bytes word ++ bytes "\t")) (allLong fs) t in
     rw (h (bytes word ++ bytes "\t") (b .0), same-read p q h fs (b .1))
 same-read p q h (alone word call ∷ fs) t =

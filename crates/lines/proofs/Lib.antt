@@ -5,9 +5,10 @@ pub mod Pieces
 pub mod NotRead
 pub mod ReadBack
 pub mod Examples
--- reading a line: `parse`, `by_head` and the functions that it calls
+-- reading a line: `parse`, `by_head` and the functions that it calls; `add`, and `answers-nine`
 pub mod Heads
--- answering a line: `run_read_only`; `key_of`; `run`, `reply_to` and `answer`
+pub mod TwoNumbers
+-- answering a line: `run_read_only`; `key_of` and `serial_of`; `run`, `reply_to` and `answer`
 pub mod ReadOnly
 pub mod Keys
 pub mod Running
@@ -16,11 +17,13 @@ pub mod Puts
 pub mod Digits
 pub mod Spelling
 pub mod KeyLines
--- taking in a piece: `line_end` and `hold`; `step`; `feed`
+-- taking in a piece: `hold`; `step`; `feed`
 pub mod Gathering
 pub mod Stepping
 pub mod Feeding
 -- the loops over standard input: `serve`, `answer_piece`, `put_piece`, `turns_left`
 pub mod Serving
+-- finding a byte: `place_of`, for `add` and `step`
+pub mod Finding
 -- for all of these
 pub mod Tests

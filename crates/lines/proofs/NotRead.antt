@@ -2,32 +2,33 @@
 use Prim.Native.Nat.{ℕ, _≤_}
 use mathlib.Core.Path.{_≡_, refl, sym, ap, _∙_}
 use mathlib.Core.Bool.{Bool, true, false, _&&_}
-use mathlib.Core.List.{List, [], _∷_, _++_, append-nil, List·Memᴰ·head, List·Memᴰ·tail}
+use mathlib.Core.List.{List, [], _∷_, _++_, append-assoc, append-nil, List·Memᴰ·head, List·Memᴰ·tail}
 use mathlib.Core.Logic.{_↔_, ⊎-elim}
 use native.Mathlib.Omega.{arith}
 use borrow.Author.Tests.{eq-eqb, eqb-true, le-ltb, ltb-true, ltb-false}
 use lib.Dec.{T, ltb, eqb}
-use lib.ListN.{length}
+use lib.ListN.{length, take, drop, take-append-drop}
 use Rattle.ordered.specs.Such.{if_then_else_, Perhaps, no-such, such}
 use Rattle.ordered.specs.Said.{_∈_}
 use Rattle.pretree.specs.declared.Answer.{Answer}
-use Rattle.pretree.specs.declared.Answer.the-variants.{Done, Word, Distance, WrongWidth, WrongHeader, WordTooWide, Damage, Full, ShortBuffer, AlreadyThere, NoSuchWord}
+use Rattle.pretree.specs.declared.Answer.the-variants.{Done, Serial, Word, Distance, WrongWidth, WrongHeader, WordTooWide, Damage, Full, ShortBuffer, AlreadyThere, NoSuchWord}
 use Rattle.pretree.specs.Answer.{numberOf}
 use Rattle.pretree.specs.declared.Call.{Call}
 use Rattle.pretree.specs.Call.{after}
 use Rattle.numbers.specs.declared.Number.{Number}
 use Rattle.numbers.specs.declared.Number.the-variants.{Of, Nothing}
-use Rattle.numbers.specs.Decimal.{readNumber}
+use Rattle.numbers.specs.Decimal.{readNumber, SpellsNumber}
 use Rattle.numbers.proofs.Laws.{read-spells, spells-read}
 use Rattle.lines.specs.declared.Line.{Line}
 use Rattle.lines.specs.declared.Line.the-variants.{Read, Unread}
-use Rattle.lines.specs.Text.{bytes}
-use Rattle.lines.specs.Line.{afterWord, Form, with-number, alone, operations}
-use Rattle.lines.specs.Line.{called, with-rest, if-nothing, readAs, firstRead, lineOf, parse}
+use Rattle.lines.specs.Text.{bytes, untilByte}
+use Rattle.lines.specs.Line.{afterWord, Form, with-number, with-two-numbers, alone, operations}
+use Rattle.lines.specs.Line.{called, readTwo, with-rest, if-nothing, readAs, firstRead, lineOf, parse}
 use Rattle.lines.specs.Output.{State, answer}
-use Rattle.lines.specs.NotRead.{Spells, numbered, bare, Refused, AnswersNine}
+use Rattle.lines.specs.NotRead.{Spells, numbered, twice-numbered, bare, Refused, AnswersNine}
 use Rattle.lines.proofs.Tests.{either, both}
 use Rattle.lines.proofs.Heads.{long-unread}
+use Rattle.lines.proofs.TwoNumbers.{reads-two}
 
 nothing-such : {A : Type 0} {a : A} → no-such ≡ such a → ⊥
 nothing-such e = let z : _≡_ {A = ℕ} 0 1 = cc in omega arith
@@ -77,10 +78,12 @@ not-both (a ∷ x) (b ∷ y) (c ∷ line) d e =
 -- how every line of a form begins, and the call from what comes after that
 abbrev opening : Form → List ℕ
 opening (with-number word of) = bytes word ++ bytes "\t"
+opening (with-two-numbers word of) = bytes word ++ bytes "\t"
 opening (alone word of) = bytes word
 
 abbrev callBy : Form → List ℕ → Perhaps Call
 callBy (with-number word of) rest = called of (readNumber rest)
+callBy (with-two-numbers word of) rest = readTwo of rest
 callBy (alone word of) rest = if-nothing of rest
 
 abbrev differs : Form → List Form → Bool
@@ -96,12 +99,60 @@ differs-from : (f : Form) {g : Form} {gs : List Form} → g ∈ gs → T (differ
 differs-from f (List·Memᴰ·head {x} {xs} e) d = rw e (both (differ (opening x) (opening f)) (differs f xs) d .0)
 differs-from f (List·Memᴰ·tail {x} {xs} m) d = differs-from f m (both (differ (opening x) (opening f)) (differs f xs) d .1)
 
+-- a text that reads as two numbers spells them
+record TwoSpelt (of : ℕ → ℕ → Call) (rest : List ℕ) (call : Call) : Type 0 where
+  k : ℕ
+  s : ℕ
+  k-digits : List ℕ
+  s-digits : List ℕ
+  parts : rest ≡ k-digits ++ 9 ∷ s-digits
+  k-spells : SpellsNumber k k-digits
+  s-spells : SpellsNumber s s-digits
+  made : call ≡ of k s
+
+two-read : (of : ℕ → ℕ → Call) (rest : List ℕ) {call : Call} → readTwo of rest ≡ such call → TwoSpelt of rest call
+unfolding readTwo
+two-read of rest {call} e = by-tab (afterWord (bytes "\t") (drop (untilByte 9 rest) rest)) refl
+  where
+    ks : List ℕ
+    ks = take (untilByte 9 rest) rest
+
+    by-tab : (p : Perhaps (List ℕ)) → afterWord (bytes "\t") (drop (untilByte 9 rest) rest) ≡ p → TwoSpelt of rest call
+    by-tab no-such a = absurd (nothing-such (rw a at e))
+    by-tab (such ss) a = by-first (readNumber ks) refl
+      where
+        by-second : {k : ℕ} → readNumber ks ≡ Of k → (n : Number) → readNumber ss ≡ n → TwoSpelt of rest call
+        by-second {k} h Nothing g = absurd (nothing-such (rw (a, h, g) at e))
+        by-second {k} h (Of s) g =
+            let same : of k s ≡ call = cc (rw (a, h, g) at e) in
+            record {
+              k = k;
+              s = s;
+              k-digits = ks;
+              s-digits = ss;
+              parts = sym (take-append-drop (untilByte 9 rest) rest) ∙ ap (λ (l : List ℕ). ks ++ l) (behind-is (bytes "\t") (drop (untilByte 9 rest) rest) a);
+              k-spells = read-spells ks h;
+              s-spells = read-spells ss g;
+              made = sym same;
+            }
+
+        by-first : (n : Number) → readNumber ks ≡ n → TwoSpelt of rest call
+        by-first Nothing h = absurd (nothing-such (rw (a, h) at e))
+        by-first (Of k) h = by-second h (readNumber ss) refl
+
+-- a line of this form, as its opening and the rest
+four-parts : (front ks ss : List ℕ) → front ++ ks ++ bytes "\t" ++ ss ≡ front ++ (ks ++ 9 ∷ ss)
+four-parts front ks ss =
+    ap (λ (l : List ℕ). l ++ ss) (append-assoc front ks (bytes "\t")) ∙ append-assoc front (ks ++ bytes "\t") ss
+    ∙ ap (λ (l : List ℕ). front ++ l) (append-assoc ks (bytes "\t") ss)
+
 module _ (line : List ℕ) where
   abbrev behind : List ℕ → Perhaps (List ℕ)
   behind word = afterWord word line
 
   as-opened : (f : Form) → readAs behind f ≡ with-rest (callBy f) (behind (opening f))
   as-opened (with-number word of) = refl
+  as-opened (with-two-numbers word of) = refl
   as-opened (alone word of) = refl
 
   opened-by :
@@ -141,6 +192,10 @@ module _ (line : List ℕ) where
       by-cases : (p : Number) → readNumber rest ≡ p → Spells call line
       by-cases Nothing a = absurd (nothing-such (rw a at c))
       by-cases (Of n) a = let same : of n ≡ call = cc (rw a at c) in numbered m e (read-spells rest a) (sym same) short
+  rest-spells (with-two-numbers word of) rest {call} m e c short =
+      let r = two-read of rest c in
+      let parts : line ≡ bytes word ++ bytes "\t" ++ r .k-digits ++ bytes "\t" ++ r .s-digits = e ∙ ap (λ (l : List ℕ). (bytes word ++ bytes "\t") ++ l) (r .parts) ∙ sym (four-parts (bytes word ++ bytes "\t") (r .k-digits) (r .s-digits)) in
+      twice-numbered m parts (r .k-spells) (r .s-spells) (r .made) short
   rest-spells (alone word of) [] {call} m e c short = let same : of ≡ call = cc in bare m (e ∙ append-nil (bytes word)) (sym same) short
   rest-spells (alone word of) (b ∷ rest) m e c short = absurd (nothing-such c)
 
@@ -151,6 +206,10 @@ module _ (line : List ℕ) where
   spells-form (numbered {word} {of} {n} {ds} m e s c short) =
       let front : behind (bytes word ++ bytes "\t") ≡ such ds = rw e (is-behind (bytes word ++ bytes "\t") ds) in
       (with-number word of, m, rw (front, spells-read ds s, c), short)
+  spells-form (twice-numbered {word} {of} {k} {s} {ks} {ss} m e ek es c short) =
+      let whole = bytes word ++ bytes "\t" in
+      let front : behind whole ≡ such (ks ++ 9 ∷ ss) = rw (e ∙ four-parts whole ks ss) (is-behind whole (ks ++ 9 ∷ ss)) in
+      (with-two-numbers word of, m, rw (front, reads-two of ks ss (ek .digits), spells-read ks ek, spells-read ss es, c), short)
   spells-form (bare {word} {of} m e c short) =
       let front : behind (bytes word) ≡ such [] = rw e (rw append-nil at (is-behind (bytes word) [])) in
       (alone word of, m, rw (front, c), short)
@@ -192,6 +251,7 @@ module _ (line : List ℕ) where
 below-nine : (a : Answer) → numberOf a ≤ 8
 unfolding numberOf
 below-nine Done = omega arith
+below-nine (Serial s) = omega arith
 below-nine (Word k) = omega arith
 below-nine (Distance d) = omega arith
 below-nine WrongWidth = omega arith
@@ -211,7 +271,7 @@ nine-unread s Unread e = refl
 unread-refused : (s : State) → (answer s Unread .fields .answer ≡ 9) × Refused s (answer s Unread)
 unfolding answer
 unread-refused s =
-    (refl, record { key = refl; rows = refl; moved = refl; listed = refl; header = refl; table = refl; buffer = refl; lines = refl })
+    (refl, record { key = refl; rows = refl; moved = refl; serial = refl; listed = refl; header = refl; table = refl; buffer = refl; lines = refl })
 
 pub answers-nine : (s : State) (line : List ℕ) → AnswersNine s line
 answers-nine s line =

@@ -25,7 +25,7 @@ module _ (h : Header) (t : List ℕ) where
   pub read-only-after : (b : List ℕ) (call : Call) → OneOf readOnly (tagOf the-type call) → after call h t b ≡ record { reply = readOnlyReply h t call; table = t; buffer = b }
   unfolding after readOnlyReply
   read-only-after b (New k) o = absurd (miss readOnly 0 tt o)
-  read-only-after b (Add k) o = absurd (miss readOnly 1 tt o)
+  read-only-after b (Add k s) o = absurd (miss readOnly 1 tt o)
   read-only-after b (Del k) o = absurd (miss readOnly 2 tt o)
   read-only-after b (Has k) o = refl
   read-only-after b (Next k) o = refl
@@ -39,7 +39,7 @@ module _ (h : Header) (t : List ℕ) where
   pub other-calls-audit : (call : Call) → OneOf audits (tagOf the-type call) → readOnlyReply h t call ≡ auditReply h t
   unfolding readOnlyReply
   other-calls-audit (New k) o = refl
-  other-calls-audit (Add k) o = refl
+  other-calls-audit (Add k s) o = refl
   other-calls-audit (Del k) o = refl
   other-calls-audit (Has k) o = absurd (miss audits 3 tt o)
   other-calls-audit (Next k) o = absurd (miss audits 4 tt o)
@@ -53,7 +53,7 @@ module _ (h : Header) (t : List ℕ) where
 pub read-only-unlisted : (call : Call) (r : Reply) → OneOf readOnly (tagOf the-type call) → listedBy call r ≡ 0
 unfolding listedBy
 read-only-unlisted (New k) r o = refl
-read-only-unlisted (Add k) r o = refl
+read-only-unlisted (Add k s) r o = refl
 read-only-unlisted (Del k) r o = refl
 read-only-unlisted (Has k) r o = refl
 read-only-unlisted (Next k) r o = refl

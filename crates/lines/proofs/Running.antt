@@ -47,7 +47,7 @@ list-within h t b =
 pub listed-within : (h : Header) (t b : List ℕ) (call : Call) → listedBy call (after call h t b .reply) ≤ length b
 unfolding listedBy after
 listed-within h t b (New k) = omega arith
-listed-within h t b (Add k) = omega arith
+listed-within h t b (Add k s) = omega arith
 listed-within h t b (Del k) = omega arith
 listed-within h t b (Has k) = omega arith
 listed-within h t b (Next k) = omega arith

@@ -36,7 +36,7 @@ written-at-end {s} {k} input keeps = by-cases (s .line) refl (k .held) (keeps .h
 
 -- the memory at the start keeps document 01's start, which is the session after the empty input
 pub start-kept :
-    {h : Header} → h ≡ fresh 0 → Keeps startSession (record { header = h; lines = 0; held = 0 }) (replicate 12288 0) (replicate 4096 0) (replicate 65 0)
+    {h : Header} → h ≡ fresh 0 → Keeps startSession (record { header = h; lines = 0; held = 0 }) (replicate 16384 0) (replicate 4096 0) (replicate 65 0)
 start-kept e = record { state = rw e; held = held-none (replicate 65 0) }
 
 pub start-sizes : Sizes (replicate 4096 0) (replicate 65 0) (replicate 131072 0)
@@ -92,7 +92,7 @@ pub record Lent (table₀ words₀ buffer₀ out₀ table words buffer out : Lis
   pub buffer-size : length buffer ≡ length buffer₀
   pub out-size : length out ≡ length out₀
   pub holds : length buffer ≡ 65
-  pub room : 65 + 15 * length words ≤ length out
+  pub room : 76 + 15 * length words ≤ length out
 
 pub lent-after :
     {table₀ words₀ buffer₀ out₀ table words buffer out rows list hold left : List ℕ} → Lent table₀ words₀ buffer₀ out₀ table words buffer out

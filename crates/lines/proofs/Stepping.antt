@@ -12,12 +12,13 @@ use Rattle.lines.specs.Output.{answer}
 use Rattle.lines.specs.Gather.{untilEnd, HoldsLine}
 use Rattle.lines.specs.declared.session.Session.{Session as CodeSession}
 use Rattle.lines.specs.Answering.{stateOf, sessionOf, Answers, Feeds, Advances}
+use Rattle.lines.proofs.Finding.{until-within}
 use Rattle.lines.proofs.Gathering.{held-more}
-use Rattle.lines.proofs.Feeding.{parse-gathered, until-within, feeds-part, feeds-line}
+use Rattle.lines.proofs.Feeding.{parse-gathered, feeds-part, feeds-line}
 
 module _ (piece : List ℕ) (from end : ℕ) (found : end ≡ from + untilEnd (drop from piece)) (inside : from < length piece) where
   pub end-within : end ≤ length piece
-  end-within = omega (arith, until-within (drop from piece), length-drop from piece)
+  end-within = omega (arith, until-within 10 (drop from piece), length-drop from piece)
 
   -- the part before the end is held after what was held before
   module _ (s : CodeSession) {buffer hold : List ℕ} {held : ℕ} (size : length buffer ≡ 65) (few : s .held ≤ 65)

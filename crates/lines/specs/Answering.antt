@@ -22,7 +22,7 @@ use Rattle.lines.specs.Gather.{HoldsLine}
 -- the reply of a call that changes neither the table nor the buffer; any other call is taken for `audit`, and the code passes none
 unfoldable pub readOnlyReply : Header → List ℕ → Call → Reply
 readOnlyReply h t (New k) = auditReply h t
-readOnlyReply h t (Add k) = auditReply h t
+readOnlyReply h t (Add k s) = auditReply h t
 readOnlyReply h t (Del k) = auditReply h t
 readOnlyReply h t (Has k) = hasReply h t k
 readOnlyReply h t (Next k) = nextReply h t k

@@ -1,4 +1,5 @@
--- The example of document 01, "The line program": its input and its whole output; and lines at the edges of the language.
+-- The example of document 01, "The line program", with serials as document 02 §1 has them: its input and its whole output; and lines at the edges
+-- of the language. The two lines after `list` show serials. That of 4 is the one of its second `add`.
 -- proofs/Examples.antt shows that the definitions give these.
 use Prim.Native.Nat.{ℕ}
 use Prim.Native.String.{String}
@@ -19,42 +20,48 @@ abbrev pub given : List ℕ
 given =
     linesAs (
     "new\t4" ∷
-    "add\t8" ∷
-    "add\t4" ∷
-    "add\t11" ∷
-    "add\t15" ∷
+    "add\t8\t1" ∷
+    "add\t4\t2" ∷
+    "add\t11\t3" ∷
+    "add\t15\t4" ∷
     "prev\t15" ∷
     "next\t11" ∷
-    "add\t4" ∷
+    "add\t4\t5" ∷
     "del\t8" ∷
     "has\t8" ∷
     "has\t16" ∷
-    "list" ∷ [])
+    "list" ∷
+    "has\t4" ∷
+    "has\t11" ∷ [])
 
 abbrev pub wanted : List ℕ
 wanted =
     linesAs (
-    "1\t0\t-\t0\t0" ∷
-    "2\t0\t-\t0\t0" ∷
-    "3\t0\t-\t1\t0" ∷
-    "4\t0\t-\t2\t0" ∷
-    "5\t0\t-\t2\t0" ∷
-    "6\t0\t11\t4\t0" ∷
-    "7\t0\t15\t4\t0" ∷
-    "8\t7\t-\t1\t0" ∷
-    "9\t0\t-\t3\t3" ∷
-    "10\t8\t-\t2\t0" ∷
-    "11\t3\t-\t0\t0" ∷
-    "12\t0\t-\t3\t0" ∷
+    "1\t0\t-\t0\t0\t-" ∷
+    "2\t0\t-\t0\t0\t-" ∷
+    "3\t0\t-\t1\t0\t-" ∷
+    "4\t0\t-\t2\t0\t-" ∷
+    "5\t0\t-\t2\t0\t-" ∷
+    "6\t0\t11\t4\t0\t-" ∷
+    "7\t0\t15\t4\t0\t-" ∷
+    "8\t7\t-\t1\t0\t-" ∷
+    "9\t0\t-\t3\t3\t-" ∷
+    "10\t8\t-\t2\t0\t-" ∷
+    "11\t3\t-\t0\t0\t-" ∷
+    "12\t0\t-\t3\t0\t-" ∷
     "key\t4" ∷
     "key\t11" ∷
-    "key\t15" ∷ [])
+    "key\t15" ∷
+    "13\t0\t-\t1\t0\t5" ∷
+    "14\t0\t-\t2\t0\t3" ∷ [])
 
 -- each operation, and lines that are not read
 abbrev pub readings : List (Example Line)
 readings =
     parse (bytes "new\t4") is Read (New 4)
-    ∷ parse (bytes "add\t0") is Read (Add 0)
+    ∷ parse (bytes "add\t0\t0") is Read (Add 0 0)
+    ∷ parse (bytes "add\t8\t4294967295") is Read (Add 8 4294967295)
+    ∷ parse (bytes "add\t4294967295\t4294967295") is Read (Add 4294967295 4294967295)
     ∷ parse (bytes "del\t8") is Read (Del 8)
     ∷ parse (bytes "has\t4294967295") is Read (Has 4294967295)
     ∷ parse (bytes "next\t11") is Read (Next 11)
@@ -78,6 +85,17 @@ readings =
     ∷ parse (bytes "has\t4294967296") is Unread
     ∷ parse (bytes "has\t00000000001") is Unread
     ∷ parse (bytes "has\t10000000000") is Unread
+    ∷ parse (bytes "add\t8") is Unread
+    ∷ parse (bytes "add\t8\t") is Unread
+    ∷ parse (bytes "add\t8\t1\t") is Unread
+    ∷ parse (bytes "add\t8\t1\t2") is Unread
+    ∷ parse (bytes "add\t\t8") is Unread
+    ∷ parse (bytes "add\t8\t\t1") is Unread
+    ∷ parse (bytes "add\t8 1") is Unread
+    ∷ parse (bytes "add\t08\t1") is Unread
+    ∷ parse (bytes "add\t8\t01") is Unread
+    ∷ parse (bytes "add\t8\t4294967296") is Unread
+    ∷ parse (bytes "has\t8\t1") is Unread
     ∷ parse (bytes "first\t") is Unread
     ∷ parse (bytes "first\t1") is Unread
     ∷ parse (bytes "firs") is Unread

@@ -6,7 +6,7 @@ use lib.Dec.{eqb}
 use lib.ListN.{getD, drop}
 use Rattle.ordered.specs.Such.{if_then_else_, Perhaps, no-such, such}
 use Rattle.pretree.specs.declared.Call.{Call}
-use Rattle.pretree.specs.declared.Call.the-variants.{New, Add, Del, Has, Next, Prev, Gap}
+use Rattle.pretree.specs.declared.Call.the-variants.{New, Del, Has, Next, Prev, Gap}
 use Rattle.numbers.specs.Decimal.{readNumber}
 use Rattle.lines.specs.declared.Line.{Line}
 use Rattle.lines.specs.declared.parse.Word.{Word}
@@ -28,7 +28,6 @@ byHead head rest = lineOf (firstRead (afterHead head rest) operations)
 
 abbrev pub callOf : Word → ℕ → Call
 callOf W.New k = New k
-callOf W.Add k = Add k
 callOf W.Del k = Del k
 callOf W.Has k = Has k
 callOf W.Next k = Next k

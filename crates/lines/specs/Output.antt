@@ -36,7 +36,7 @@ listedIn r = if eqb (numberOf (r .answer)) 0 then r .header .count else 0
 
 unfoldable pub listedBy : Call → Reply → ℕ
 listedBy (New w) r = 0
-listedBy (Add k) r = 0
+listedBy (Add k s) r = 0
 listedBy (Del k) r = 0
 listedBy (Has k) r = 0
 listedBy (Next k) r = 0

@@ -14,7 +14,7 @@ use Rattle.lines.specs.Answering.{stateOf}
 -- the buffer has room to see that a line is too long, and `out` has room for the longest reply
 pub record Sizes (words buffer out : List ℕ) : Type 0 where
   pub holds : length buffer ≡ 65
-  pub room : 65 + 15 * length words ≤ length out
+  pub room : 76 + 15 * length words ≤ length out
 
 -- the program's memory keeps a session: its state, and the bytes that are held of its line
 pub record Keeps (s : Session) (k : CodeSession) (table words buffer : List ℕ) : Type 0 where

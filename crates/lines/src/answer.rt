@@ -51,7 +51,7 @@ pub fn run(call: Call, header: Header, table: &mut [u32], words: &mut [u32]) -> 
 {
     match call {
         Call::New(width) => without_listing(header.new(table, width)),
-        Call::Add(k) => without_listing(header.add(table, k)),
+        Call::Add(k, serial) => without_listing(header.add(table, k, serial)),
         Call::Del(k) => without_listing(header.del(table, k)),
         Call::List => with_listing(header.list(table, words)),
         _ => without_listing(run_read_only(call, header, table)),
@@ -86,7 +86,7 @@ pub struct LineResult {
     pub next: usize,
 }
 
-// Answers a line that comes after `lines` lines. A reply takes at most 65 bytes, and 15 more for each listed word.
+// Answers a line that comes after `lines` lines. A reply takes at most 76 bytes, and 15 more for each listed word.
 pub(crate) fn answer(
     line: &[u8],
     lines: u64,
@@ -97,7 +97,7 @@ pub(crate) fn answer(
     at: usize,
 ) -> LineResult
     requires { ⌜ lines + 1 < 2 ^ 64 ⌝ }
-    requires { ⌜ at + 65 + 15 * length (now words) ≤ length (now out) ⌝ }
+    requires { ⌜ at + 76 + 15 * length (now words) ≤ length (now out) ⌝ }
     ensures { λ r. ⌜ Answers (answer (stateOf header (now (table .entry)) (now (words .entry)) lines) (parse (now (line .entry))))
         (stateOf (r .header) (now (table .exit)) (now (words .exit)) (lines + 1))
         (now (out .entry)) at (now (out .exit)) (r .next) ⌝ }

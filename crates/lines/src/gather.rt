@@ -1,25 +1,9 @@
-// Gathering lines from pieces of input: where a line ends, and which bytes are held of a line that has not ended.
+// Gathering lines from pieces of input: which bytes are held of a line that has not ended.
 
 ghost use mathlib.Core.Path.{_≡_};
 ghost use Prim.Native.Nat.{_+_, _-_, _≤_};
-ghost use lib.ListN.{length, take, drop};
+ghost use lib.ListN.{length, take};
 ghost use Rattle.lines.specs.Render.{Put};
-ghost use Rattle.lines.specs.Gather.{untilEnd};
-
-// The place of the first byte 10 from `from` on, or the end of the piece.
-pub(crate) fn line_end(piece: &[u8], from: usize) -> usize
-    requires { ⌜ from ≤ length (now piece) ⌝ }
-    ensures { λ r. ⌜ r ≡ from + untilEnd (drop from (now (piece .entry))) ⌝ }
-{
-    let mut i = from;
-    while i < piece.len() {
-        if piece[i] == b'\n' {
-            return i;
-        }
-        i += 1;
-    }
-    i
-}
 
 // Holds a part of a line after the `count` bytes that are already held. Bytes past the end of the buffer are dropped.
 pub(crate) fn hold(buffer: &mut [u8], count: usize, part: &[u8]) -> usize

@@ -3,6 +3,7 @@
 
 // `answer`, `parse` and `reply` are public because crate `raw` uses them too.
 pub mod answer;
+mod find;
 mod gather;
 pub mod parse;
 mod put;
@@ -26,4 +27,5 @@ pub struct ReplyFields {
     pub key: Number,
     pub rows: u32,
     pub moved: u32,
+    pub serial: Number,
 }

@@ -1,17 +1,18 @@
 // Reading a line: specs/Line.antt says what each line means.
 
 use crate::Line;
+use crate::find::place_of;
 use numbers::Number;
 use numbers::read_number;
 use pretree::Call;
 ghost use mathlib.Core.Path.{_≡_};
-ghost use Rattle.lines.specs.Line.{parse, if-nothing, lineOf};
+ghost use Rattle.pretree.specs.declared.Call.the-variants.{Add};
+ghost use Rattle.lines.specs.Line.{parse, calledWithTwo, readTwo, if-nothing, lineOf};
 ghost use Rattle.lines.specs.Head.{packed, byHead, callOf, numbered, numberedAfter, aloneAfter};
 
-// The words that are followed by a number.
+// The words that are followed by one number.
 pub enum Word {
     New,
-    Add,
     Del,
     Has,
     Next,
@@ -25,7 +26,6 @@ impl Word {
     {
         match self {
             Word::New => Call::New(k),
-            Word::Add => Call::Add(k),
             Word::Del => Call::Del(k),
             Word::Has => Call::Has(k),
             Word::Next => Call::Next(k),
@@ -61,7 +61,7 @@ fn by_head(head: u32, rest: &[u8]) -> Line
     match head {
         // `new`, `add`, `del`, `has` and `gap`, each with its tab
         0x6e657709 => numbered(Word::New, rest),
-        0x61646409 => numbered(Word::Add, rest),
+        0x61646409 => add(rest),
         0x64656c09 => numbered(Word::Del, rest),
         0x68617309 => numbered(Word::Has, rest),
         0x67617009 => numbered(Word::Gap, rest),
@@ -98,6 +98,31 @@ fn numbered_after(b: u8, word: Word, rest: &[u8]) -> Line
         return Line::Unread;
     }
     numbered(word, &rest[1..])
+}
+
+// The word and its serial, parted by one tab.
+fn add(rest: &[u8]) -> Line
+    ensures { λ r. ⌜ r ≡ lineOf (readTwo Add (now (rest .entry))) ⌝ }
+{
+    let tab = place_of(b'\t', rest, 0);
+    if tab == rest.len() {
+        return Line::Unread;
+    }
+    let word = read_number(&rest[..tab]);
+    let serial = read_number(&rest[tab + 1..]);
+    add_of(word, serial)
+}
+
+fn add_of(word: Number, serial: Number) -> Line
+    ensures { λ r. ⌜ r ≡ lineOf (calledWithTwo Add word serial) ⌝ }
+{
+    match word {
+        Number::Of(k) => match serial {
+            Number::Of(s) => Line::Read(Call::Add(k, s)),
+            Number::Nothing => Line::Unread,
+        },
+        Number::Nothing => Line::Unread,
+    }
 }
 
 fn alone(call: Call, rest: &[u8]) -> Line

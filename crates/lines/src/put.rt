@@ -1,12 +1,12 @@
 // Writing a reply into a lent buffer; specs/Render.antt says what it looks like. Each function puts its bytes at the place `at` and
-// returns the place after them. A reply line has at most 65 bytes, the line of a listed word at most 15.
+// returns the place after them. A reply line has at most 76 bytes, the line of a listed word at most 15.
 
 use crate::ReplyFields;
 use numbers::Number;
 ghost use mathlib.Core.Path.{_≡_};
 ghost use Prim.Native.Nat.{_+_, _*_, _≤_};
 ghost use lib.ListN.{length};
-ghost use Rattle.lines.specs.Render.{digits, field, keyField, replyLine, keyLine, keyLines, Put};
+ghost use Rattle.lines.specs.Render.{digits, field, fieldOrDash, replyLine, keyLine, keyLines, Put};
 
 // Counts the digits first, then writes them from the last to the first.
 pub(crate) fn put_number(out: &mut [u8], at: usize, n: u64) -> usize
@@ -46,12 +46,12 @@ fn put_field(out: &mut [u8], at: usize, n: u32) -> usize
     put_number(out, at + 1, n as u64)
 }
 
-fn put_key(out: &mut [u8], at: usize, key: Number) -> usize
+fn put_field_or_dash(out: &mut [u8], at: usize, n: Number) -> usize
     requires { ⌜ at + 11 ≤ length (now out) ⌝ }
-    ensures { λ r. ⌜ Put (now (out .entry)) at (keyField key) (now (out .exit)) r ⌝ }
+    ensures { λ r. ⌜ Put (now (out .entry)) at (fieldOrDash n) (now (out .exit)) r ⌝ }
     ensures { λ r. ⌜ r ≤ at + 11 ⌝ }
 {
-    match key {
+    match n {
         Number::Of(k) => put_field(out, at, k),
         Number::Nothing => {
             out[at] = b'\t';
@@ -61,18 +61,20 @@ fn put_key(out: &mut [u8], at: usize, key: Number) -> usize
     }
 }
 
-// "line number from 1, answer number, key or `-`, rows read, moving count, parted by tabs"
+// "line number from 1, answer number, key or `-`, rows read, moving count, parted by tabs"; and the serial or `-`
 pub(crate) fn put_reply(out: &mut [u8], at: usize, line: u64, fields: ReplyFields) -> usize
-    requires { ⌜ at + 65 ≤ length (now out) ⌝ }
+    requires { ⌜ at + 76 ≤ length (now out) ⌝ }
     ensures { λ r. ⌜ Put (now (out .entry)) at (replyLine line fields) (now (out .exit)) r ⌝ }
-    ensures { λ r. ⌜ r ≤ at + 65 ⌝ }
+    ensures { λ r. ⌜ r ≤ at + 76 ⌝ }
 {
     let key = fields.key;
+    let serial = fields.serial;
     let mut next = put_number(out, at, line);
     next = put_field(out, next, fields.answer);
-    next = put_key(out, next, key);
+    next = put_field_or_dash(out, next, key);
     next = put_field(out, next, fields.rows);
     next = put_field(out, next, fields.moved);
+    next = put_field_or_dash(out, next, serial);
     out[next] = b'\n';
     next + 1
 }

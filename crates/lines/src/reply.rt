@@ -1,11 +1,11 @@
-// The fields of a reply line: document 01's number and key for each kind of answer.
+// The fields of a reply line: the documents' number, key and serial for each kind of answer.
 
 use crate::ReplyFields;
 use numbers::Number;
 use pretree::Answer;
 use pretree::Reply;
 ghost use mathlib.Core.Path.{_≡_};
-ghost use Rattle.pretree.specs.Answer.{numberOf, keyOf};
+ghost use Rattle.pretree.specs.Answer.{numberOf, keyOf, serialOf};
 ghost use Rattle.lines.specs.Render.{asNumber, fieldsOf, notRead};
 
 pub fn reply_fields(reply: Reply) -> ReplyFields
@@ -17,6 +17,7 @@ pub fn reply_fields(reply: Reply) -> ReplyFields
         key: key_of(answer),
         rows: reply.rows,
         moved: reply.moved,
+        serial: serial_of(answer),
     }
 }
 
@@ -29,6 +30,7 @@ pub fn not_read() -> ReplyFields
         key: Number::Nothing,
         rows: 0,
         moved: 0,
+        serial: Number::Nothing,
     }
 }
 
@@ -37,6 +39,7 @@ pub(crate) fn number_of(answer: Answer) -> u32
 {
     match answer {
         Answer::Done => 0,
+        Answer::Serial(_) => 0,
         Answer::Word(_) => 0,
         Answer::Distance(_) => 0,
         Answer::WrongWidth => 1,
@@ -56,6 +59,16 @@ fn key_of(answer: Answer) -> Number
     match answer {
         Answer::Word(k) => Number::Of(k),
         Answer::Distance(d) => Number::Of(d),
+        _ => Number::Nothing,
+    }
+}
+
+// Document 02 §1: "the serial for a `has` that found its word, `-` elsewhere"
+fn serial_of(answer: Answer) -> Number
+    ensures { λ r. ⌜ r ≡ asNumber (serialOf answer) ⌝ }
+{
+    match answer {
+        Answer::Serial(s) => Number::Of(s),
         _ => Number::Nothing,
     }
 }

@@ -26,7 +26,7 @@ pub struct PieceResult {
 
 // "Table of 4,096 rows, all zeros, and a `list` buffer of 4,096 words. Header at the start: W 0, count 0."
 pub fn run() {
-    let mut table = [0u32; 12288];
+    let mut table = [0u32; 16384];
     let mut words = [0u32; 4096];
     let mut buffer = [0u8; 65];
     let mut input = io::large_buffer();

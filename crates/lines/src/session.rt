@@ -2,8 +2,8 @@
 
 use crate::answer::LineResult;
 use crate::answer::answer;
+use crate::find::place_of;
 use crate::gather::hold;
-use crate::gather::line_end;
 use pretree::Header;
 ghost use mathlib.Core.Path.{_≡_};
 ghost use Prim.Native.Nat.{_+_, _*_, _-_, _<_, _≤_, _^_};
@@ -36,7 +36,7 @@ fn step(
     at: usize,
 ) -> Progress
     requires { ⌜ session .lines + 1 < 2 ^ 64 ⌝ }
-    requires { ⌜ at + 65 + 15 * length (now words) ≤ length (now out) ⌝ }
+    requires { ⌜ at + 76 + 15 * length (now words) ≤ length (now out) ⌝ }
     requires { ⌜ (length (now buffer) ≡ 65) × (session .held ≤ 65) ⌝ }
     requires { ⌜ from < length (now piece) ⌝ }
     ensures { λ r. ⌜ FeedsFromHeld session (now (table .entry)) (now (words .entry)) (now (buffer .entry)) (now (out .entry)) at
@@ -45,7 +45,7 @@ fn step(
     ensures { λ r. ⌜ Advances from (length (now (piece .entry))) (length (now (out .exit))) session r ⌝ }
 {
     let lines = session.lines;
-    let end = line_end(piece, from);
+    let end = place_of(b'\n', piece, from);
     let held = hold(buffer, session.held, &piece[from..end]);
     if end == piece.len() {
         let mut kept = session;
@@ -96,7 +96,7 @@ pub(crate) fn feed(
     out: &mut [u8],
 ) -> Progress
     requires { ⌜ session .lines + length (now piece) < 2 ^ 64 + from ⌝ }
-    requires { ⌜ 65 + 15 * length (now words) ≤ length (now out) ⌝ }
+    requires { ⌜ 76 + 15 * length (now words) ≤ length (now out) ⌝ }
     requires { ⌜ (length (now buffer) ≡ 65) × (session .held ≤ 65) ⌝ }
     requires { ⌜ from < length (now piece) ⌝ }
     ensures { λ r. ⌜ FeedsFromHeld session (now (table .entry)) (now (words .entry)) (now (buffer .entry)) (now (out .entry)) 0
@@ -104,7 +104,7 @@ pub(crate) fn feed(
         r (now (table .exit)) (now (words .exit)) (now (buffer .exit)) (now (out .exit)) ⌝ }
     ensures { λ r. ⌜ Advances from (length (now (piece .entry))) (length (now (out .exit))) session r ⌝ }
 {
-    let most = 65 + 15 * words.len();
+    let most = 76 + 15 * words.len();
     let mut progress = Progress {
         session,
         from,

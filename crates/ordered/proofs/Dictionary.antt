@@ -1,7 +1,7 @@
 -- The operations of the ordered dictionary do what source 004 says of them, in its order, about the words of the set; and its words fix each
 -- answer, and the words of a set.
 use Prim.Native.Nat.{ℕ, _<_}
-use mathlib.Core.Path.{_≡_, refl, sym, ap, ap₂, subst}
+use mathlib.Core.Path.{_≡_, refl, sym, ap, ap₂, subst, _∙_}
 use mathlib.Core.Logic.{_↔_, _⊎_, inl, inr, ⊎-elim, ⊎-swap, Iff·symm, Iff·trans}
 use mathlib.Core.Bool.{Bool, true, false, _||_, false≢true}
 use mathlib.Core.List.{List, [], _∷_}
@@ -9,7 +9,7 @@ use mathlib.Core.List.{List·Memᴰ·head, List·Memᴰ·tail, List·Memᴰ·cas
 use native.Mathlib.Nat.{le-antisymm, le-of-lt}
 use native.Mathlib.Omega.{arith}
 use lib.Dec.{ltb, eqb}
-use borrow.Author.Tests.{eqb-true, eqb-false, eq-eqb}
+use borrow.Author.Tests.{eqb-true, eqb-false, eq-eqb, ne-eqb}
 use Rattle.ordered.specs.Such.{if_then_else_, Perhaps, no-such, such, its, isThere, first-of, only-if, first-such, last-such, anything}
 use Rattle.ordered.specs.Dictionary.{Entry, words, wordOf, Above, none-above, one-above, Increasing, none-increasing, one-increasing}
 use Rattle.ordered.specs.Dictionary.{insert, is-empty, lookup, delete, max, min, successor, predecessor}
@@ -236,3 +236,49 @@ same-elements (one-increasing {x} {xs} a h) (one-increasing {x = y} {xs = ys} b 
   where
     heads : x ≡ y
     heads = le-antisymm (head-least a (same y .1 (List·Memᴰ·head refl))) (head-least b (same x .0 (List·Memᴰ·head refl)))
+
+-- the dictionary is a map: a word has the entry that was put in last, and no other word's entry changes
+pub lookup-inserted : (e : Entry) (s : List Entry) → lookup (e .key) (insert e s) ≡ such e
+unfolding insert lookup first-such
+lookup-inserted e [] = rw (eq-eqb (e .key) (e .key) refl)
+lookup-inserted e (f ∷ s) =
+    by-order (λ t. lookup (e .key) t ≡ such e) (e .key) (f .key)
+    (λ less. rw (eq-eqb (e .key) (e .key) refl))
+    (λ equal. rw (eq-eqb (e .key) (e .key) refl))
+    (λ greater. rw (ne-eqb (e .key) (f .key) (λ same. omega arith)) (lookup-inserted e s))
+
+pub lookup-another : (k : ℕ) (e : Entry) (s : List Entry) → (k ≡ e .key → ⊥) → lookup k (insert e s) ≡ lookup k s
+unfolding insert lookup first-such
+lookup-another k e [] apart = rw (ne-eqb k (e .key) apart)
+lookup-another k e (f ∷ s) apart =
+    by-order (λ t. lookup k t ≡ lookup k (f ∷ s)) (e .key) (f .key)
+    (λ less. rw (ne-eqb k (e .key) apart))
+    (λ equal. rw (ne-eqb k (e .key) apart, ne-eqb k (f .key) (λ same. apart (same ∙ sym equal))))
+    (λ greater. ap (first-of (if eqb k (f .key) then such f else no-such)) (lookup-another k e s apart))
+
+pub lookup-deleted : (x : ℕ) (s : List Entry) → lookup x (delete x s) ≡ no-such
+unfolding delete lookup first-such
+lookup-deleted x [] = refl
+lookup-deleted x (f ∷ s) =
+    by-test (λ t. lookup x t ≡ no-such) (eqb x (f .key)) (λ same. lookup-deleted x s) (λ differs. rw differs (lookup-deleted x s))
+
+pub lookup-kept : (k x : ℕ) (s : List Entry) → (k ≡ x → ⊥) → lookup k (delete x s) ≡ lookup k s
+unfolding delete lookup first-such
+lookup-kept k x [] apart = refl
+lookup-kept k x (f ∷ s) apart =
+    by-test (λ t. lookup k t ≡ lookup k (f ∷ s)) (eqb x (f .key))
+    (λ same. lookup-kept k x s apart ∙ sym (rw (ne-eqb k (f .key) (λ also. apart (also ∙ sym (eqb-true x (f .key) same))))))
+    (λ differs. ap (first-of (if eqb k (f .key) then such f else no-such)) (lookup-kept k x s apart))
+
+-- whether a word is there depends on the words alone
+pub there-by-words : (k : ℕ) (s t : List Entry) → words s ≡ words t → isThere (lookup k s) ≡ isThere (lookup k t)
+unfolding lookup first-such
+there-by-words k [] [] same = refl
+there-by-words k [] (f ∷ t) same = cc
+there-by-words k (e ∷ s) [] same = cc
+there-by-words k (e ∷ s) (f ∷ t) same =
+    let heads : e .key ≡ f .key = cc in
+    let tails : words s ≡ words t = cc in
+    there-either (eqb k (e .key)) e (lookup k s)
+    ∙ ap₂ (λ x b. eqb k x || b) heads (there-by-words k s t tails)
+    ∙ sym (there-either (eqb k (f .key)) f (lookup k t))

@@ -1,6 +1,6 @@
 -- The trees of document 01's sets A, B and C, and the calls over them, as they compute: a must-fail edit of a definition of a tree, a way
 -- or a change meets one of these. (The starred examples themselves are about replies on tables, and stand in `pretree`.)
-use Prim.Native.Nat.{ℕ}
+use Prim.Native.Nat.{ℕ, _+_}
 use mathlib.Core.Path.{_≡_, refl}
 use mathlib.Core.List.{List, [], _∷_}
 use Rattle.ordered.specs.Example.{Example, _is_, All-agree}
@@ -13,8 +13,13 @@ use Rattle.ordered.specs.Reading.{Found, Reading, wordIn, rowsOf, has, n
 use Rattle.ordered.specs.Grown.{grown, shrunk, pushed-tree, popped-tree, linked, shifted, lifted}
 use Rattle.ordered.specs.Change.{Take, Adding, Erasing, adding, erasing, pushed, left-over, raised}
 
+-- each word with a serial of its own
 abbrev entry : ℕ → Entry
-entry k = record { key = k }
+entry k = record { key = k; serial = k + 100 }
+
+-- and with another, when it comes again
+abbrev again : ℕ → Entry
+again k = record { key = k; serial = k + 200 }
 
 abbrev set : List ℕ → List Entry
 set [] = []
@@ -80,23 +85,23 @@ readings-agree = refl
 abbrev A-numbered : Tree
 A-numbered = word 0 4 none (word 1 8 (leaf 2 11) (leaf 3 15))
 
--- the rows that take an entry, each with its key
-abbrev taken : List Take → List (ℕ × ℕ)
+-- the rows that take an entry, each with it
+abbrev taken : List Take → List (ℕ × Entry)
 taken [] = []
-taken (t ∷ ts) = (t .at, t .entry .key) ∷ taken ts
+taken (t ∷ ts) = (t .at, t .entry) ∷ taken ts
 
 abbrev hooked : Perhaps Step → Perhaps (ℕ × Side)
 hooked no-such = no-such
 hooked (such s) = such (s .at, s .turn)
 
 -- an erase in short: its rows, the rows that take an entry, the hole and where it is linked
-abbrev erasing-short : Erasing → ℕ × List (ℕ × ℕ) × ℕ × Perhaps (ℕ × Side)
+abbrev erasing-short : Erasing → ℕ × List (ℕ × Entry) × ℕ × Perhaps (ℕ × Side)
 erasing-short e = (rows (e .rows-read), taken (e .takes), e .hole, hooked (e .hook))
 
-abbrev erases : List (Example (ℕ × List (ℕ × ℕ) × ℕ × Perhaps (ℕ × Side)))
+abbrev erases : List (Example (ℕ × List (ℕ × Entry) × ℕ × Perhaps (ℕ × Side)))
 erases =
-    erasing-short (erasing 4 8 A-numbered) is (3, (1, 11) ∷ [], 2, such (1, left))
-    ∷ erasing-short (erasing 4 4 A-numbered) is (3, (0, 8) ∷ (1, 11) ∷ [], 2, such (1, left))
+    erasing-short (erasing 4 8 A-numbered) is (3, (1, entry 11) ∷ [], 2, such (1, left))
+    ∷ erasing-short (erasing 4 4 A-numbered) is (3, (0, entry 8) ∷ (1, entry 11) ∷ [], 2, such (1, left))
     ∷ erasing-short (erasing 4 15 A-numbered) is (3, [], 3, such (1, right))
     ∷ erasing-short (erasing 4 4 (leaf 0 4)) is (1, [], 0, no-such)
     ∷ []
@@ -105,17 +110,18 @@ erases-agree : All-agree erases
 unfolding erasing raised way rows joined following down last-such side
 erases-agree = refl
 
--- an addition in short: its rows, the rows that take an entry, the key of the new row and where it is linked
-abbrev adding-short : Adding → ℕ × List (ℕ × ℕ) × ℕ × Perhaps (ℕ × Side)
-adding-short a = (rows (a .rows-read), taken (a .takes), a .new-entry .key, hooked (a .hook))
+-- an addition in short: its rows, the rows that take an entry, the entry of the new row and where it is linked
+abbrev adding-short : Adding → ℕ × List (ℕ × Entry) × Entry × Perhaps (ℕ × Side)
+adding-short a = (rows (a .rows-read), taken (a .takes), a .new-entry, hooked (a .hook))
 
-abbrev adds : List (Example (ℕ × List (ℕ × ℕ) × ℕ × Perhaps (ℕ × Side)))
+abbrev adds : List (Example (ℕ × List (ℕ × Entry) × Entry × Perhaps (ℕ × Side)))
 adds =
-    adding-short (adding 4 (entry 4) (leaf 0 8)) is (1, (0, 4) ∷ [], 8, such (0, right))
-    ∷ adding-short (adding 4 (entry 12) A-numbered) is (3, (3, 12) ∷ [], 15, such (3, right))
-    ∷ adding-short (adding 4 (entry 0) A-numbered) is (1, (0, 0) ∷ [], 4, such (0, left))
-    ∷ adding-short (adding 4 (entry 9) A-numbered) is (3, (2, 9) ∷ [], 11, such (2, right))
-    ∷ adding-short (adding 4 (entry 7) none) is (0, [], 7, no-such)
+    adding-short (adding 4 (entry 4) (leaf 0 8)) is (1, (0, entry 4) ∷ [], entry 8, such (0, right))
+    ∷ adding-short (adding 4 (entry 12) A-numbered) is (3, (3, entry 12) ∷ [], entry 15, such (3, right))
+    ∷ adding-short (adding 4 (entry 0) A-numbered) is (1, (0, entry 0) ∷ [], entry 4, such (0, left))
+    ∷ adding-short (adding 4 (entry 9) A-numbered) is (3, (2, entry 9) ∷ [], entry 11, such (2, right))
+    ∷ adding-short (adding 4 (entry 7) none) is (0, [], entry 7, no-such)
+    ∷ adding-short (adding 4 (again 11) A-numbered) is (3, (2, again 11) ∷ [], again 11, no-such)
     ∷ []
 
 adds-agree : All-agree adds
@@ -128,7 +134,7 @@ left-trees =
     grown 4 4 (entry 12) A-numbered is word 0 4 none (word 1 8 (leaf 2 11) (word 3 12 none (leaf 4 15)))
     ∷ grown 4 4 (entry 0) A-numbered is word 0 0 (leaf 4 4) (word 1 8 (leaf 2 11) (leaf 3 15))
     ∷ grown 4 4 (entry 9) A-numbered is word 0 4 none (word 1 8 (word 2 9 none (leaf 4 11)) (leaf 3 15))
-    ∷ grown 4 4 (entry 11) A-numbered is A-numbered
+    ∷ grown 4 4 (again 11) A-numbered is word 0 4 none (word 1 8 (row 2 (again 11) none none) (leaf 3 15))
     ∷ shrunk 4 8 A-numbered is word 0 4 none (word 1 11 none (leaf 3 15))
     ∷ shrunk 4 4 A-numbered is word 0 8 none (word 1 11 none (leaf 3 15))
     ∷ shrunk 4 9 A-numbered is A-numbered

@@ -1,5 +1,5 @@
 -- The trees that `add` and `del` leave of a proper tree are proper, and they list the dictionary's next set.
-use Prim.Native.Nat.{ℕ, suc, _+_, _*_, _/_, _^_, _≤_, _<_}
+use Prim.Native.Nat.{ℕ, zero, suc, _+_, _*_, _/_, _^_, _≤_, _<_}
 use mathlib.Core.Path.{_≡_, refl, sym, ap, _∙_}
 use mathlib.Core.Bool.{Bool, true, false}
 use mathlib.Core.List.{List, _∷_, _++_}
@@ -14,7 +14,7 @@ use Rattle.ordered.specs.Proper.{Fitting, Proper}
 use Rattle.ordered.specs.Way.{Way, way, following}
 use Rattle.ordered.specs.Reading.{Found, wordIn, root-row}
 use Rattle.ordered.specs.Change.{entryAt}
-use Rattle.ordered.specs.Grown.{linked, pushed-tree, popped-tree, grown, shrunk}
+use Rattle.ordered.specs.Grown.{storing, linked, pushed-tree, popped-tree, grown, shrunk}
 use Rattle.ordered.proofs.Bits.{to-part}
 use Rattle.ordered.proofs.Parts.{All, AllWords, none-all, one-all, all-map, above-all, insert-before, insert-between, delete-absent, delete-between}
 use Rattle.ordered.proofs.OneTree.{keys-fit, one-tree}
@@ -82,15 +82,15 @@ there k (present same) = refl
 own-key : (k : ℕ) {u : Tree} → Present k u → entryAt u .key ≡ k
 own-key k (present same) = same
 
--- an entry is its key
-same-entry : {e f : Entry} → e .key ≡ f .key → e ≡ f
-same-entry same = ap (λ k. record { key = k }) same
-
-insert-present : (o : Entry) {u : Tree} → Present (o .key) u → insert o (entries u) ≡ entries u
+-- there the row takes an entry of the same word
+stored-entries : (o : Entry) {u : Tree} → Present (o .key) u → entries (storing o u) ≡ insert o (entries u)
 unfolding insert entries
-insert-present o (present {e} {l} {r} same) =
-    rw (le-ltb (o .key) (e .key) (omega arith), eq-eqb (o .key) (e .key) (sym same))
-    (ap (λ e. e ∷ (entries l ++ entries r)) (same-entry (sym same)))
+stored-entries o (present {e} same) = rw (le-ltb (o .key) (e .key) (omega arith), eq-eqb (o .key) (e .key) (sym same))
+
+stored-proper : (m path low : ℕ) (o : Entry) {u : Tree} → Present (o .key) u → Proper m path low u → Proper m path low (storing o u)
+unfolding Proper
+stored-proper zero path low o (present {e} same) h = record { key-fits = rw (← same) (h .key-fits); parts = h .parts }
+stored-proper (suc m) path low o (present {e} same) h = record { key-fits = rw (← same) (h .key-fits); parts = rw (← same) (h .parts) }
 
 module _ (m k path low : ℕ) (t : Tree) (fits : Fitting m path low k) (h : Proper m path low t) where
   abbrev the-way : Way
@@ -208,7 +208,9 @@ module _ (m path low n : ℕ) (e : Entry) (t : Tree) (fits : Fitting m path low 
   unfolding grown
   grown-proper =
       meeting left-bits k (finds .ends)
-      (λ b. Proper m path low (if b then t else linked (the-way m k path low t fits h .passed) new-part)) (λ is-there. h)
+      (λ b.
+      Proper m path low (if b then linked (the-way m k path low t fits h .passed) (storing e old) else linked (the-way m k path low t fits h .passed) new-part))
+      (λ is-there. opens .links (storing e old) (stored-proper left-bits (k / 2 ^ left-bits) (opens .end-low) e is-there (opens .end-proper)))
       (λ beyond.
       opens .links new-part
       (proper-lower left-bits (k / 2 ^ left-bits) k (opens .end-low) new-part (opens .end-from)
@@ -218,8 +220,10 @@ module _ (m path low n : ℕ) (e : Entry) (t : Tree) (fits : Fitting m path low 
   unfolding grown
   grown-entries =
       meeting left-bits k (finds .ends)
-      (λ b. entries (if b then t else linked (the-way m k path low t fits h .passed) new-part) ≡ insert e (entries t))
-      (λ is-there. lists-itself m k path low t fits h (sym (insert-present e is-there)) ∙ sym inserted)
+      (λ b.
+      entries (if b then linked (the-way m k path low t fits h .passed) (storing e old) else linked (the-way m k path low t fits h .passed) new-part)
+      ≡ insert e (entries t))
+      (λ is-there. lists-around m k path low t fits h (storing e old) (stored-entries e is-there) ∙ sym inserted)
       (λ beyond.
       lists-around m k path low t fits h new-part
       (push-entries n left-bits (k / 2 ^ left-bits) e old refl (raised-part beyond) ∙ sym (insert-before e (entries old) beyond))

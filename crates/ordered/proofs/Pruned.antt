@@ -213,7 +213,7 @@ module _ {Bad : ℕ → Type 0} {σ : ℕ → ℕ} where
   goes-alike f blind zero (cut {i} {e} {l} {r} bad) = breaks (i, start-read f zero (row i e l r) (List·Memᴰ·head refl), bad)
   goes-alike f blind (suc m) empty = ends no-steps empty refl
   goes-alike f blind (suc m) (kept {i} {e} {l} {r} {l′} {r′} good lefts rights) =
-      rw (blind m e l r l′ r′ (exists-same lefts) (exists-same rights))
+      rw (blind m e e l r l′ r′ refl (exists-same lefts) (exists-same rights))
       (turned (f m e l r) (goes-alike f blind m lefts) (goes-alike f blind m rights))
     where
       turned : (c : Turn) → GoesAlike Bad σ (way f m l) (way f m l′) → GoesAlike Bad σ (way f m r) (way f m r′)

@@ -170,27 +170,28 @@ pub passing-equal-seeks : (k : ℕ) → Seeks (passing-equal k) (λ x. leb x k) 
 unfolding passing-equal
 passing-equal-seeks k m e l r = refl
 
--- every rule of ours looks only at entries and at whether a part exists, not at what stands there
+-- every rule of ours looks only at the word of a row and at whether a part exists, not at the serial or at what stands in the part
 abbrev pub Blind : Rule → Type 0
-Blind f = (m : ℕ) (e : Entry) (l r l′ r′ : Tree) → exists l′ ≡ exists l → exists r′ ≡ exists r → f m e l′ r′ ≡ f m e l r
+Blind f =
+    (m : ℕ) (e e′ : Entry) (l r l′ r′ : Tree) → e′ .key ≡ e .key → exists l′ ≡ exists l → exists r′ ≡ exists r → f m e′ l′ r′ ≡ f m e l r
 
 pub following-blind : (k : ℕ) → Blind (following k)
 unfolding following
-following-blind k m e l r l′ r′ lefts rights = refl
+following-blind k m e e′ l r l′ r′ same lefts rights = rw same
 
 pub passing-equal-blind : (k : ℕ) → Blind (passing-equal k)
 unfolding passing-equal
-passing-equal-blind k m e l r l′ r′ lefts rights = refl
+passing-equal-blind k m e e′ l r l′ r′ same lefts rights = rw same
 
 pub pushing-blind : Blind pushing
 unfolding pushing
-pushing-blind m e l r l′ r′ lefts rights = refl
+pushing-blind m e e′ l r l′ r′ same lefts rights = rw same
 
 pub staying-blind : Blind staying
 unfolding staying
-staying-blind m e l r l′ r′ lefts rights = refl
+staying-blind m e e′ l r l′ r′ same lefts rights = refl
 
 pub down-blind : (s : Side) → Blind (down s)
 unfolding down
-down-blind left m e l r l′ r′ lefts rights = rw (lefts, rights)
-down-blind right m e l r l′ r′ lefts rights = rw (lefts, rights)
+down-blind left m e e′ l r l′ r′ same lefts rights = rw (lefts, rights)
+down-blind right m e e′ l r l′ r′ same lefts rights = rw (lefts, rights)

@@ -33,8 +33,15 @@ unfoldable pub left-over : Entry → List Step → Entry
 left-over e [] = e
 left-over e (s ∷ ss) = left-over (s .entry) ss
 
+-- the number of the row at which a way ends
+abbrev pub numberAt : Tree → ℕ
+numberAt none = 0
+numberAt (row i e l r) = i
+numberAt damaged = 0
+
 -- "`add` k: the way of k. If it ends at a key greater than k, that row takes k and its old key is pushed down by its own bits, taking
--- each next row's place in turn, until a link is none. The new row is [..] linked where the way or the push ended"
+-- each next row's place in turn, until a link is none. The new row is [..] linked where the way or the push ended".
+-- Document 02 §1: "An `add` of a word already there still answers 7, but now stores the new serial."
 pub record Adding : Type 0 where
   -- all the rows that are read: those of the way of k, then those that the push passes
   pub rows-read : Way
@@ -46,7 +53,7 @@ pub record Adding : Type 0 where
   pub hook : Perhaps Step
 
 abbrev pub adding-by : Entry → Way → Way → Way → Bool → Adding
-adding-by e w push whole true = record { rows-read = w; present = true; takes = []; new-entry = e; hook = no-such }
+adding-by e w push whole true = record { rows-read = w; present = true; takes = record { at = numberAt (w .end); entry = e } ∷ []; new-entry = e; hook = no-such }
 adding-by e w push whole false =
     record {
       rows-read = whole;
@@ -78,11 +85,6 @@ pub record Erasing : Type 0 where
   -- the row at which the stretch ends, and the row and side where it is linked, unless it is the root
   pub hole : ℕ
   pub hook : Perhaps Step
-
-abbrev pub numberAt : Tree → ℕ
-numberAt none = 0
-numberAt (row i e l r) = i
-numberAt damaged = 0
 
 abbrev pub entryAt : Tree → Entry
 entryAt none = no-entry

@@ -6,13 +6,15 @@ use mathlib.Core.List.{List, [], _∷_}
 use lib.Dec.{ltb, eqb}
 use Rattle.ordered.specs.Such.{if_then_else_, Perhaps, its, first-such, last-such, anything}
 
--- what the set keeps of a word, and what a push or an erase moves from row to row
+-- what the set keeps of a word, and what a push or an erase moves from row to row: the word, and the serial handed in with it last.
+-- Document 02 §1: "Each row gets a fourth word, the serial handed in with `add`, any 32-bit number."
 pub record Entry : Type 0 where
   pub key : ℕ
+  pub serial : ℕ
 
 -- where there is no entry, this one stands for it
 abbrev pub no-entry : Entry
-no-entry = record { key = 0 }
+no-entry = record { key = 0; serial = 0 }
 
 -- the words of a list of entries
 abbrev pub words : List Entry → List ℕ
@@ -32,7 +34,7 @@ pub data Increasing : List ℕ → Type 0 where
   none-increasing : Increasing []
   one-increasing : {x : ℕ} {xs : List ℕ} → Above x xs → Increasing xs → Increasing (x ∷ xs)
 
--- "insert(x), which adds x to S": here with its entry, which takes the place of an entry for the same word
+-- "insert(x), which adds x to S": here its entry. An entry for the same word is replaced: `add` "now stores the new serial"
 unfoldable pub insert : Entry → List Entry → List Entry
 insert e [] = e ∷ []
 insert e (f ∷ s) =

@@ -5,7 +5,7 @@ use mathlib.Core.List.{List, [], _∷_}
 use Rattle.ordered.specs.Such.{if_then_else_}
 use Rattle.ordered.specs.Word.{Side, left, right}
 use Rattle.ordered.specs.Dictionary.{Entry}
-use Rattle.ordered.specs.Tree.{Tree, none, row}
+use Rattle.ordered.specs.Tree.{Tree, none, row, damaged}
 use Rattle.ordered.specs.Way.{Way, Step, way, following, pushing, down}
 use Rattle.ordered.specs.Change.{ends-at, left-over, entryAt}
 
@@ -49,11 +49,17 @@ popped-tree m t =
     let stretch : Way = way (down left) m t in
     linked (lifted (stretch .passed) (entryAt (stretch .end))) none
 
+-- a part whose first row takes the entry e
+abbrev pub storing : Entry → Tree → Tree
+storing e none = none
+storing e (row i f l r) = row i e l r
+storing e damaged = damaged
+
 -- the tree after `add` of the entry e, where n is the number of the new row, if there is one
 unfoldable pub grown : (n m : ℕ) → Entry → Tree → Tree
 grown n m e t =
     let w : Way = way (following (e .key)) m t in
-    if ends-at (e .key) w then t
+    if ends-at (e .key) w then linked (w .passed) (storing e (w .end))
     else linked (w .passed) (pushed-tree n (w .bits) e (w .end))
 
 -- the tree after `del` k

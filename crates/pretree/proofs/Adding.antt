@@ -8,7 +8,7 @@ use native.Mathlib.Omega.{arith}
 use lib.Dec.{ltb, eqb}
 use lib.ListN.{length}
 use lib.Pow.{shl-shr}
-use borrow.Author.Tests.{lt-ltb, eq-eqb, ne-eqb}
+use borrow.Author.Tests.{lt-ltb, eqb-true, eq-eqb, ne-eqb}
 use Rattle.ordered.specs.Such.{isThere, if_then_else_, such, no-such, last-such, anything}
 use Rattle.ordered.specs.Word.{Side, sideOf}
 use Rattle.ordered.specs.Tree.{Tree, none, damaged}
@@ -25,15 +25,16 @@ use Rattle.pretree.specs.declared.Answer.the-variants as Answers
 use Rattle.pretree.specs.declared.leg.End.the-variants.{None, Row, Damage}
 use Rattle.pretree.specs.declared.leg.Leg.{Leg}
 use Rattle.pretree.specs.declared.seek.Seek.{Seek}
-use Rattle.pretree.specs.Table.{fromCode, capacity, rowAt, withRow, hooked}
+use Rattle.pretree.specs.Table.{fromCode, capacity, rowAt, withSerial, withRow, hooked}
 use Rattle.pretree.specs.Unfold.{shown}
 use Rattle.pretree.specs.Reply.{wrong-header, too-wide, refused, answered}
-use Rattle.pretree.specs.Walk.{Walk, Stage, On, AtNone, AtRow, AtDamage, started, isOn, endRead, rowsRead, ended, treeAt, to-come, stepAt, remembered, seeking, Goes, Walked}
+use Rattle.pretree.specs.Walk.{Walk, Stage, On, AtNone, AtRow, AtDamage, started, isOn, endRead, rowsRead, ended, treeAt, to-come, stepAt, remembered, seeking, Goes, Placed, Walked}
 use Rattle.pretree.specs.Resume.{isDamage, endsAt, again, resumed, Going}
 use Rattle.pretree.specs.Leg.{rootPlace, OnLeg, GoesOn}
-use Rattle.pretree.specs.Seek.{bitsLeft, placeOf, SeekEnds}
+use Rattle.pretree.specs.Seek.{rowOf, aboveOf, bitsLeft, placeOf, SeekEnds}
 use Rattle.pretree.specs.Add.{taking, hooking, grown, addOutcome}
 use Rattle.pretree.specs.Push.{takes-from, left-from, endBits, endSide, grownAt, Growable, grownOutcome, Displaces}
+use Rattle.pretree.proofs.Rows.{own-key}
 use Rattle.pretree.proofs.Checks.{right-header}
 use Rattle.pretree.proofs.Walking.{at-none, at-damage, begins-root}
 use Rattle.pretree.proofs.Seeking.{following-is}
@@ -164,10 +165,21 @@ module _ (h : Header) (table : List ℕ) (e : Entry) (w : Walk) (fine : wrong-he
       by-stage AtRow e = refl
       by-stage AtDamage e = sym e
 
-  present-outcome : too-wide h k ≡ false → endsAt k (w .entry .key) (w .stage) ≡ true
-      → addOutcome h table (fromCode e) ≡ record { reply = answered h AlreadyThere (rowsRead w (h .width)); table = table }
-  unfolding addOutcome adding
-  present-outcome small is = rw (fine, small, following-is k, there, is, whole-there is, rows-gone rows _ _ _ _ w gone)
+  -- the row of the word takes the new serial, and nothing else changes
+  own-key-there : w .stage ≡ AtRow → k ≡ w .entry .key → k ≡ rowAt table (w .row) .entry .key
+  own-key-there at same = same ∙ ap (λ x. x .key) (subst (Placed rows w) at (gone .walking .placed) .2)
+
+  present-outcome : too-wide h k ≡ false → endsAt k (w .entry .key) (w .stage) ≡ true → w .stage ≡ AtRow
+      → addOutcome h table (fromCode e)
+      ≡ record { reply = answered h AlreadyThere (rowsRead w (h .width)); table = withSerial (w .row) (e .serial) table }
+  unfolding addOutcome adding taking
+  present-outcome small is at =
+      rw (fine, small, following-is k, there, is, whole-there is, rows-gone rows _ _ _ _ w gone, all-gone rows _ _ _ _ w gone .end, at)
+      (ap (λ t. record { reply = answered h AlreadyThere (h .width - w .bits + 1); table = t })
+      (own-key (w .row) (fromCode e) table (own-key-there at (at-key at))))
+    where
+      at-key : w .stage ≡ AtRow → k ≡ w .entry .key
+      at-key at = eqb-true k (w .entry .key) (subst (λ (stage : Stage). endsAt k (w .entry .key) stage ≡ true) at is)
 
   -- the walk p went on to the end of the push
   module _ (p : Walk) (goes : GoesOn rows pushing (h .count) (resumed w) p) (off : isOn (p .stage) ≡ false) where
@@ -209,7 +221,7 @@ module _ (h : Header) (table : List ℕ) (e : Entry) (w : Walk) (fine : wrong-he
     grown-is =
         rw (
           known .by-numbers .takes e,
-          known .by-numbers .left-key e,
+          known .by-numbers .left-entry e,
           end-is,
           passed-is,
           all-told .above,
@@ -300,7 +312,7 @@ module _ (h : Header) (table : List ℕ) (e : Entry) (fine : wrong-header h tabl
     w = g .walk
 
     abbrev linkLeg : Leg
-    linkLeg = record { at = placeOf s sought-word; above = s .above }
+    linkLeg = record { at = placeOf s sought-word; above = aboveOf s }
 
     link-on : OnLeg (h .count) linkLeg w
     link-on =
@@ -310,14 +322,14 @@ module _ (h : Header) (table : List ℕ) (e : Entry) (fine : wrong-header h tabl
           same-count = g .walked .walking .same-count;
         }
 
-    pub link-growable : Growable h table (s .row) (bitsLeft (s .mask)) (endBits linkLeg) (s .above)
+    pub link-growable : Growable h table (rowOf s) (bitsLeft (s .mask)) (endBits linkLeg) (aboveOf s)
     link-growable =
-        growable h table e w fine (g .walked) w (stays h table e w fine (g .walked) AtNone (g .ends) refl) (g .walked .ended) (s .row) (bitsLeft (s .mask)) linkLeg
+        growable h table e w fine (g .walked) w (stays h table e w fine (g .walked) AtNone (g .ends) refl) (g .walked .ended) (rowOf s) (bitsLeft (s .mask)) linkLeg
         (g .row) (Sought.bits-are table h sought-word fine small s None g) link-on
 
-    pub link-outcome : addOutcome h table (fromCode e) ≡ grownOutcome h table e (s .row) (bitsLeft (s .mask)) (endBits linkLeg) (s .above) (endSide linkLeg)
+    pub link-outcome : addOutcome h table (fromCode e) ≡ grownOutcome h table e (rowOf s) (bitsLeft (s .mask)) (endBits linkLeg) (aboveOf s) (endSide linkLeg)
     link-outcome =
-        grown-outcome h table e w fine (g .walked) w (stays h table e w fine (g .walked) AtNone (g .ends) refl) (g .walked .ended) (s .row) (bitsLeft (s .mask))
+        grown-outcome h table e w fine (g .walked) w (stays h table e w fine (g .walked) AtNone (g .ends) refl) (g .walked .ended) (rowOf s) (bitsLeft (s .mask))
         linkLeg (g .row) (Sought.bits-are table h sought-word fine small s None g) link-on small (ap (endsAt sought-word (w .entry .key)) (g .ends)) (g .ends)
 
   pub broken-outcome : SeekEnds rows-there h (shown h table) sought-word s Damage → addOutcome h table (fromCode e) ≡ record { reply = refused h Answers.Damage; table = table }
@@ -327,11 +339,18 @@ module _ (h : Header) (table : List ℕ) (e : Entry) (fine : wrong-header h tabl
 
   module _ (r : Rows.Row) (g : SeekEnds rows-there h (shown h table) sought-word s (Row r)) where
     pub there-outcome : r .entry .key ≡ sought-word
-        → addOutcome h table (fromCode e) ≡ record { reply = answered h AlreadyThere (h .width - bitsLeft (s .mask) + 1); table = table }
+        → addOutcome h table (fromCode e)
+        ≡ record { reply = answered h AlreadyThere (h .width - bitsLeft (s .mask) + 1); table = withSerial (rowOf s) (e .serial) table }
     there-outcome same =
         let v : Walk = g .walk in
         let at-word : endsAt sought-word (v .entry .key) (v .stage) ≡ true = rw (g .ends .0, g .ends .2, eq-eqb sought-word (r .entry .key) (sym same)) in
-        rw (present-outcome h table e v fine (g .walked) small at-word, Sought.bits-are table h sought-word fine small s (Row r) g, g .ends .0)
+        rw (present-outcome h table e v fine (g .walked) small at-word (g .ends .0), Sought.bits-are table h sought-word fine small s (Row r) g, g .ends .0, g .row)
+
+    -- its row is in use
+    pub row-used : rowOf s < capacity table
+    row-used =
+        let placed : g .walk .row < g .walk .count = subst (Placed rows-there (g .walk)) (g .ends .0) (g .walked .walking .placed) .0 in
+        omega (arith, right-header h table fine .has-room, g .row, g .walked .walking .same-count)
 
     pub displaces : (r .entry .key ≡ sought-word → ⊥) → Displaces h table sought-word (placeOf s sought-word) r
     displaces another =

@@ -34,7 +34,7 @@ use Rattle.pretree.specs.Unfold.{shown}
 use Rattle.pretree.specs.Reply.{wrong-header, too-wide, refused, answered}
 use Rattle.pretree.specs.Walk.{Walk, Stage, On, AtNone, AtRow, AtDamage}
 use Rattle.pretree.specs.Walk.{isOn, rowsRead, treeAt, to-come, stepAt, remembered, seeking, Goes, Placed, Walked}
-use Rattle.pretree.specs.Seek.{bitsLeft, endAt, placeOf, Sought, SeekEnds}
+use Rattle.pretree.specs.Seek.{rowOf, aboveOf, bitsLeft, endAt, placeOf, Sought, SeekEnds}
 use Rattle.pretree.specs.Leg.{judges, rowEnd, EndsSo, Stands, OnLeg, GoesOn, passesDown, stageHere, BegunLeg, LegGone, LegEnds}
 use Rattle.pretree.specs.Add.{taking, hooking}
 use Rattle.pretree.specs.Del.{secondWay, astray, moving, shrunk, delOutcome}
@@ -79,8 +79,8 @@ module _ {h : Header} {table : List ℕ} {k : ℕ} {s : Seek} {end : End} (q : S
   bits-left : bitsLeft (s .mask) ≡ q .ends .walk .bits
   bits-left = bits-there (placeOf s k) (q .ends .walk) stands-there
 
-  hook-there : hookOf (placeOf s k) (bitsLeft (s .mask)) (h .width) (s .above) ≡ hookAt (q .ends .walk) (h .width)
-  hook-there = hook-is (placeOf s k) (q .ends .walk) (s .above) (h .width) stands-there (q .ends .above)
+  hook-there : hookOf (placeOf s k) (bitsLeft (s .mask)) (h .width) (aboveOf s) ≡ hookAt (q .ends .walk) (h .width)
+  hook-there = hook-is (placeOf s k) (q .ends .walk) (aboveOf s) (h .width) stands-there (q .ends .above)
 
 -- so fewer bits are left at the place further down
 fewer : (p q : Place) (w v : Walk) → Stands p w → Stands q v → v .bits ≤ w .bits → bitsLeft (q .mask) ≤ bitsLeft (p .mask)
@@ -133,7 +133,7 @@ module _ (h : Header) (table : List ℕ) (fine : wrong-header h table ≡ false)
   end-part = endPart rows (seeking k k) (h .width) (h .count) (shown h table) w gone
 
   room : w .count ≤ capacity table
-  room = in-table h table (record { key = k }) w fine gone
+  room = in-table h table (record { key = k; serial = 0 }) w fine gone
 
   broken-is : broken whole ≡ isDamage (w .stage)
   unfolding broken
@@ -146,7 +146,7 @@ module _ (h : Header) (table : List ℕ) (fine : wrong-header h table ≡ false)
       by-stage AtDamage = refl
 
   ends-is : ends-at k whole ≡ endsAt k (w .entry .key) (w .stage)
-  ends-is = rw (following-is k) (there h table (record { key = k }) w fine gone)
+  ends-is = rw (following-is k) (there h table (record { key = k; serial = 0 }) w fine gone)
 
   rows-are : Ways.rows whole ≡ rowsRead w (h .width)
   rows-are = rw (following-is k) (rows-gone rows (seeking k k) (h .width) (h .count) (shown h table) w gone)
@@ -474,14 +474,14 @@ module _ {h : Header} {table : List ℕ} {x : ℕ} {s : Seek} {end : End} (q : S
   last-walked =
       subst (λ (k : ℕ). Walked (rowAt table) (seeking k k) (h .width) (h .count) (shown h table) (q .ends .walk)) own (q .ends .walked)
 
-  module _ {p : Place} {bits : ℕ} {k : Hook} (at : p ≡ placeOf s x) (left-there : bits ≡ bitsLeft (s .mask)) (hooked : k ≡ hookOf p bits (h .width) (s .above)) where
+  module _ {p : Place} {bits : ℕ} {k : Hook} (at : p ≡ placeOf s x) (left-there : bits ≡ bitsLeft (s .mask)) (hooked : k ≡ hookOf p bits (h .width) (aboveOf s)) where
     its-hook : k ≡ hookAt (q .ends .walk) (h .width)
     its-hook = hooked ∙ rw (at, left-there) (hook-there q)
 
     its-bits : bits ≡ q .ends .walk .bits
     its-bits = left-there ∙ bits-left q
 
-    pub seek-moves : (ends : Bool) → ends ≡ ends-last (s .row) (h .count - 1) end → (hole : ℕ) → (hole ≡ pred (h .count) → ⊥)
+    pub seek-moves : (ends : Bool) → ends ≡ ends-last (rowOf s) (h .count - 1) end → (hole : ℕ) → (hole ≡ pred (h .count) → ⊥)
         → JudgedMove h table hole (record { needed = true; astray = not ends; hook = k; rows = h .width - bits + 1 })
     seek-moves ends so hole apart =
         let same-row = ap (λ (i : ℕ). ends-last i (h .count - 1) end) (q .ends .row) in
@@ -589,7 +589,7 @@ module _ {h : Header} {table : List ℕ} {k : ℕ} {s : Seek} {end : End} (q : S
         rw (← read) (not-there h table k (q .fine) (q .small) (q .ends .walk) (q .ends .walked) absent (rw (so-row .0)))
 
     module _ (same : r .entry .key ≡ k) where
-      pub row-of-key : RowOfKey h table k (placeOf s k) (s .above)
+      pub row-of-key : RowOfKey h table k (placeOf s k) (aboveOf s)
       row-of-key =
           record {
             walk = q .ends .walk;
@@ -599,5 +599,5 @@ module _ {h : Header} {table : List ℕ} {k : ℕ} {s : Seek} {end : End} (q : S
             above = q .ends .above;
           }
 
-      pub key-there : rowAt table (s .row) .entry .key ≡ k
+      pub key-there : rowAt table (rowOf s) .entry .key ≡ k
       key-there = rw (q .ends .row, ← so-row .1) same

@@ -15,7 +15,7 @@ use Rattle.ordered.specs.Way as Ways
 use Rattle.ordered.specs.Reading.{Found, wordIn, rowsOf, brokenIn, root-row, end-row, to-its-end, has}
 use Rattle.ordered.specs.Dictionary.{no-entry}
 use Rattle.pretree.specs.declared.Header.{Header}
-use Rattle.pretree.specs.declared.Answer.the-variants.{Done, Word, WrongHeader, Damage, NoSuchWord}
+use Rattle.pretree.specs.declared.Answer.the-variants.{Serial, Word, WrongHeader, Damage, NoSuchWord}
 use Rattle.pretree.specs.declared.Reply.{Reply}
 use Rattle.pretree.specs.declared.Row as Rows
 use Rattle.pretree.specs.declared.leg.End.{End}
@@ -26,7 +26,7 @@ use Rattle.pretree.specs.declared.seek.Seek.{Seek}
 use Rattle.pretree.specs.Table.{rowAt}
 use Rattle.pretree.specs.Unfold.{judged, unfolded, shown}
 use Rattle.pretree.specs.Reply.{wrong-header, too-wide, refused, answered}
-use Rattle.pretree.specs.Find.{word, read-reply, saying, done, hasReply}
+use Rattle.pretree.specs.Find.{word, read-reply, saying, serial, hasReply}
 use Rattle.pretree.specs.Walk.{Walk, On, AtDamage, isOn, rowsRead, started, startedAt, ended, holds, treeAt, to-come, seeking, Placed, Walking, Walked}
 use Rattle.pretree.specs.Resume.{Going}
 use Rattle.pretree.specs.Seek.{bitsLeft, endAt, Sought, SeekEnds}
@@ -69,18 +69,18 @@ module _ (h : Header) (table : List ℕ) (k : ℕ) (w : Walk) (fine : wrong-head
       rw (fine, small, following-is k, rows-gone _ _ _ _ _ w gone, add-zero, all-gone _ _ _ _ _ w gone .end) (by-end e so)
     where
       by-key : (b : Bool) (n : ℕ)
-          → answered h (saying done (if b then such (record { entry = w .entry; bits = way (seeking k k) (h .width) (shown h table) .bits }) else no-such)) n
-          ≡ (if b then answered h Done n else answered h NoSuchWord n)
+          → answered h (saying serial (if b then such (record { entry = w .entry; bits = way (seeking k k) (h .width) (shown h table) .bits }) else no-such)) n
+          ≡ (if b then answered h (Serial (w .entry .serial)) n else answered h NoSuchWord n)
       by-key true n = refl
       by-key false n = refl
 
       by-end : (e : End) → EndsSo (rowAt table) w e
           → (let t : Tree = endsIn (rowAt table) w (w .stage) in
           if isDamaged t || false then refused h Damage
-          else answered h (saying done (only-if (λ f. eqb k (wordIn f)) (root-row (way (seeking k k) (h .width) (shown h table) .bits) t))) (rowsRead w (h .width)))
+          else answered h (saying serial (only-if (λ f. eqb k (wordIn f)) (root-row (way (seeking k k) (h .width) (shown h table) .bits) t))) (rowsRead w (h .width)))
           ≡ foundBy h k (h .width - w .bits) e
       by-end Ends.the-variants.None at = rw at (ap (answered h NoSuchWord) (omega arith))
-      by-end (Ends.the-variants.Row r) so = rw (so .0, ← ap (λ e. e .key) (so .2)) (by-key (eqb k (w .entry .key)) (h .width - w .bits + 1))
+      by-end (Ends.the-variants.Row r) so = rw (so .0, ← ap (λ e. e .key) (so .2), ← ap (λ e. e .serial) (so .2)) (by-key (eqb k (w .entry .key)) (h .width - w .bits + 1))
       by-end Ends.the-variants.Damage at = rw at
 
 -- with no word every way is empty

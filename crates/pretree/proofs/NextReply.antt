@@ -26,10 +26,11 @@ use Rattle.pretree.specs.Reply.{wrong-header, too-wide, answered}
 use Rattle.pretree.specs.Find.{nextReply}
 use Rattle.pretree.specs.Found.{next-from, aside-from}
 use Rattle.pretree.specs.Leg.{EndsSo}
-use Rattle.pretree.specs.Seek.{bitsLeft, turn, stepped, endOf, endAt, asideOf, spanOf, Sought, SeekEnds}
+use Rattle.pretree.specs.Seek.{rowOf, bitsLeft, turn, stepped, endOf, endAt, asideOf, spanOf, Sought, SeekEnds}
 use Rattle.pretree.specs.Next.{nextFrom, nextAt}
 use Rattle.pretree.specs.Walk.{Walk, Stage, AtNone, AtRow, AtDamage, isOn, endRead, started, stageAt, holds, ended, remembering, passed, turned, met, seeking, seekTurn, Placed, Walking, Walked}
 use Rattle.pretree.specs.Resume.{again, resumed}
+use Rattle.pretree.proofs.Writing.{row-back}
 use Rattle.pretree.proofs.Between.{half-mask, turns-so, next-rest}
 use Rattle.pretree.proofs.Checks.{right-header}
 use Rattle.pretree.proofs.Neighbours.{next-at}
@@ -41,18 +42,18 @@ use Rattle.pretree.proofs.Sought.{seek-ends, bits-are}
 -- what the end of a seek tells: at an empty link it wants no row, and a row at which it ends has a key that is not less than k
 module _ (rows : ℕ → Rows.Row) (count k : ℕ) (s : Seek) where
   abbrev there : Rows.Row
-  there = rows (s .row)
+  there = rows (rowOf s)
 
   abbrev Tells : End → Type 0
-  Tells None = s .row ≡ 0
+  Tells None = rowOf s ≡ 0
   Tells (Row r) = k ≤ there .entry .key
   Tells Damage = Unit {0}
 
   end-tells : Tells (endAt rows count k s)
-  end-tells = by-count (ltb (s .row) count)
+  end-tells = by-count (ltb (rowOf s) count)
     where
-      no-row : (a b : Bool) → eqb (s .row) 0 ≡ a → Tells (if a && b then None else Damage)
-      no-row true true e = eqb-true (s .row) 0 e
+      no-row : (a b : Bool) → eqb (rowOf s) 0 ≡ a → Tells (if a && b then None else Damage)
+      no-row true true e = eqb-true (rowOf s) 0 e
       no-row true false e = tt
       no-row false b e = tt
 
@@ -64,11 +65,11 @@ module _ (rows : ℕ → Rows.Row) (count k : ℕ) (s : Seek) where
 
       by-key : (a : Bool) → ltb (there .entry .key) k ≡ a
           → Tells
-          (if a then (if eqb (s .row) 0 && not (eqb (s .between) k) then None else Damage)
+          (if a then (if eqb (rowOf s) 0 && not (eqb (s .between) k) then None else Damage)
           else if ltb k (there .entry .key) then (if ltb (s .mask - s .tail) (there .entry .key - k) then Damage else Row there)
           else if eqb (s .mask) 0 && not (eqb (there .left) 0 && eqb (there .right) 0) then Damage
           else Row there)
-      by-key true e = no-row (eqb (s .row) 0) (not (eqb (s .between) k)) refl
+      by-key true e = no-row (eqb (rowOf s) 0) (not (eqb (s .between) k)) refl
       by-key false e = not-less (ltb k (there .entry .key)) (ltb (s .mask - s .tail) (there .entry .key - k)) (eqb (s .mask) 0 && not (eqb (there .left) 0 && eqb (there .right) 0)) (ltb-false (there .entry .key) k e)
 
       by-count : (a : Bool) → Tells (if a then endOf s k there else Damage)
@@ -86,12 +87,11 @@ module _ (rows : ℕ → Rows.Row) (k : ℕ) (s : Seek) (w : Walk) (m : ℕ) (bi
   abbrev stepped-to : Bool → Side → Seek
   stepped-to leaves σ =
       record {
-        row = link here σ;
         at = rowWords * link here σ;
         mask = s .mask / 2;
         tail = bitAnd (s .tail) (s .mask / 2);
         between = s .between;
-        above = s .row;
+        above = s .at;
         aside = if leaves then here .right else s .aside;
         span = if leaves then s .mask / 2 else s .span;
       }
@@ -108,7 +108,7 @@ module _ (rows : ℕ → Rows.Row) (k : ℕ) (s : Seek) (w : Walk) (m : ℕ) (bi
 
   -- the walk past the row, whatever it remembers
   shows-past : (v : Walk) (σ : Side) (t : Seek) → side m k ≡ σ → v .bits ≡ suc m → v .path ≡ w .path
-      → t .row ≡ link here σ → t .mask ≡ s .mask / 2 → t .tail ≡ bitAnd (s .tail) (s .mask / 2)
+      → rowOf t ≡ link here σ → t .mask ≡ s .mask / 2 → t .tail ≡ bitAnd (s .tail) (s .mask / 2)
       → t .aside ≡ asideOf rows (v .any) (v .aside) → t .span ≡ spanOf (v .any) (v .beneath)
       → ShowsNext rows k t (passed v (entryOf here) (bitOf σ) (link here σ))
   shows-past v σ t e v-bits v-path t-row t-mask t-tail t-aside t-span =
@@ -134,12 +134,12 @@ module _ (rows : ℕ → Rows.Row) (k : ℕ) (s : Seek) (w : Walk) (m : ℕ) (bi
 
       to-left : (c : Bool) → eqb (here .right) 0 ≡ c → side m k ≡ left
           → ShowsNext rows k (stepped-to (not c) left) (passed (if c then resumed w else remembering (resumed w)) (entryOf here) 0 (here .left))
-      to-left true none-right e = shows-past (resumed w) left (stepped-to false left) e bits refl refl refl refl aside span
-      to-left false some-right e = shows-past (remembering (resumed w)) left (stepped-to true left) e bits refl refl refl refl refl (rw bits half)
+      to-left true none-right e = shows-past (resumed w) left (stepped-to false left) e bits refl (row-back _) refl refl aside span
+      to-left false some-right e = shows-past (remembering (resumed w)) left (stepped-to true left) e bits refl (row-back _) refl refl refl (rw bits half)
 
       go : (b : Bool) (σ : Side) → (if b then 1 else 0) ≡ bitOf σ → side m k ≡ σ
           → ShowsNext rows k (stepped-to (not b && not (eqb (here .right) 0)) (sideOf (if b then 1 else 0))) (turned (resumed w) here (to σ))
-      go true right t e = shows-past (resumed w) right (stepped-to false right) e bits refl refl refl refl aside span
+      go true right t e = shows-past (resumed w) right (stepped-to false right) e bits refl (row-back _) refl refl aside span
       go true left t e = absurd (suc-ne-zero 0 t)
       go false right t e = absurd (suc-ne-zero 0 (sym t))
       go false left t e = to-left (eqb (here .right) 0) refl e
@@ -180,7 +180,7 @@ module _ (h : Header) (table : List ℕ) (k : ℕ) (fine : wrong-header h table 
         next-at h table k (resumed w) fine small (record { walking = onward; ended = ap (λ (st : Stage). isOn (again st)) at })
         ∙ ap (λ (st : Stage). next-from h rows k (again st) (w .entry .key) (h .width - w .bits + endRead (again st)) (w .any) (w .beneath) (w .aside)) at
 
-    at-none : w .stage ≡ AtNone → s .row ≡ 0 → nextReply h table k ≡ nextAt h rows k s None
+    at-none : w .stage ≡ AtNone → rowOf s ≡ 0 → nextReply h table k ≡ nextAt h rows k s None
     at-none at nowhere =
         let no-row : w .row ≡ 0 = sym (g .row) ∙ nowhere in
         rw passed-so-far
@@ -259,7 +259,7 @@ module _ (h : Header) (table : List ℕ) (k : ℕ) (fine : wrong-header h table 
           let walked : Walked rows (seeking (suc k) k) (h .width) (h .count) (shown h table) ended-here
           = record { walking = subst (Walking rows (seeking (suc k) k) (h .width) (h .count) (shown h table)) (stops-below none-left) walks; ended = refl } in
           reply-here (stops-below none-left) ∙ not-greater
-          ∙ aside-reply h table k fine small ended-here walked stepped-on (no-link none-left (sideOf (turn s))) rows-read
+          ∙ aside-reply h table k fine small ended-here walked stepped-on (row-back _ ∙ no-link none-left (sideOf (turn s))) rows-read
           (as-before (ltb (s .mask / 2) (s .tail)) _ _ _ none-right ∙ g .aside)
           (as-before (ltb (s .mask / 2) (s .tail)) _ _ _ none-right ∙ g .span)
         where

@@ -29,7 +29,7 @@ use Rattle.pretree.specs.Reply.{wrong-header, too-wide}
 use Rattle.pretree.specs.Find.{nextReply}
 use Rattle.pretree.specs.Found.{wordBy, then-by, aside-from, next-from}
 use Rattle.pretree.specs.Leg.{judges, rowEnd, linkEnd, Stands}
-use Rattle.pretree.specs.Seek.{asideOf, spanOf}
+use Rattle.pretree.specs.Seek.{rowOf, asideOf, spanOf}
 use Rattle.pretree.specs.Next.{nextPlace, nextFrom}
 use Rattle.pretree.specs.Walk.{Walk, On, AtNone, AtRow, AtDamage, isOn, rowsRead, stageAt, startedAt, holds, ended, turned, met, stepAt, remembered, seeking, seekTurn, Walking, Walked}
 use Rattle.pretree.proofs.Checks.{right-header, narrow}
@@ -117,7 +117,7 @@ module _ (k key m : ℕ) (least : key ≤ k) (on-path : key / 2 ^ suc m ≡ k / 
 
 -- a link led the walk w here, and the seek s is where it is; the key above, if there is a row here, is k
 pub record ShowsNext (rows : ℕ → Row) (k : ℕ) (s : Seek) (w : Walk) : Type 0 where
-  pub row : s .row ≡ w .row
+  pub row : rowOf s ≡ w .row
   pub mask : s .mask ≡ 2 ^ w .bits - 1
   pub tail : s .tail ≡ k % 2 ^ w .bits
   pub path : w .path ≡ k / 2 ^ w .bits
@@ -138,7 +138,7 @@ module _ (h : Header) (table : List ℕ) (k : ℕ) (fine : wrong-header h table 
   reply-by w = next-from h (rowAt table) k (w .stage) (w .entry .key) (rowsRead w (h .width)) (w .any) (w .beneath) (w .aside)
 
   -- at the right link left aside
-  module _ (w : Walk) (gone : Walked (rowAt table) (seeking (suc k) k) (h .width) (h .count) (shown h table) w) (s : Seek) (nowhere : s .row ≡ 0) (n : ℕ) where
+  module _ (w : Walk) (gone : Walked (rowAt table) (seeking (suc k) k) (h .width) (h .count) (shown h table) w) (s : Seek) (nowhere : rowOf s ≡ 0) (n : ℕ) where
     aside-by : (any : Bool) → If-such (OnWay k) (remembered (rowAt table) (w .count) any (w .beneath) (w .aside) left)
         → (any ≡ true → (w .aside < w .count) × (w .beneath < h .width))
         → s .aside ≡ asideOf (rowAt table) any (w .aside) → s .span ≡ spanOf any (w .beneath)
@@ -233,7 +233,7 @@ module _ (h : Header) (table : List ℕ) (k : ℕ) (fine : wrong-header h table 
         by-row true c e f =
             let at : v .stage ≡ AtNone = stage-is true c e f in
             let off : isOn (v .stage) ≡ false = rw at in
-            let zero-row : s .row ≡ 0 = shows .row ∙ eqb-true _ _ e in
+            let zero-row : rowOf s ≡ 0 = shows .row ∙ eqb-true _ _ e in
             next-at h table k v fine small (gone off) ∙ rw (at, add-zero n) (aside-reply v (gone off) s zero-row n (shows .aside) (shows .span))
         by-row false false e f =
             let at : v .stage ≡ AtDamage = stage-is false false e f in

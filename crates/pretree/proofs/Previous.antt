@@ -30,7 +30,7 @@ use Rattle.pretree.specs.Find.{prevReply}
 use Rattle.pretree.specs.Found.{then-by, above-by, above-from, prev-from, greatestBy}
 use Rattle.pretree.specs.Walk.{Walk, AtNone, AtRow, AtDamage, startedAt, treeAt, below, rowsRead}
 use Rattle.pretree.specs.Leg.{Stands}
-use Rattle.pretree.specs.Seek.{bitsLeft, endAt, Sought, SeekEnds}
+use Rattle.pretree.specs.Seek.{rowOf, aboveOf, bitsLeft, endAt, Sought, SeekEnds}
 use Rattle.pretree.specs.Prev.{rowsTo, leftIfRight, leftPlace}
 use Rattle.pretree.proofs.leg.End.{the-type}
 use Rattle.pretree.proofs.Checks.{right-header}
@@ -58,12 +58,12 @@ module _ (rows : ℕ → Row) (count k : ℕ) (s : Seek) (r : Row) (e : endAt ro
   nowhere true false h = let z : _≡_ {A = ℕ} 0 1 = cc in omega arith
   nowhere false d h = let z : _≡_ {A = ℕ} 0 1 = cc in omega arith
 
-  not-less : ltb (rows (s .row) .entry .key) k ≡ false
-  not-less = go (ltb (rows (s .row) .entry .key) k) refl
+  not-less : ltb (rows (rowOf s) .entry .key) k ≡ false
+  not-less = go (ltb (rows (rowOf s) .entry .key) k) refl
     where
-      go : (b : Bool) → ltb (rows (s .row) .entry .key) k ≡ b → b ≡ false
+      go : (b : Bool) → ltb (rows (rowOf s) .entry .key) k ≡ b → b ≡ false
       go false h = refl
-      go true h = absurd (nowhere (ltb (s .row) count) (eqb (s .row) 0 && not (eqb (s .between) k)) (rw h at e))
+      go true h = absurd (nowhere (ltb (rowOf s) count) (eqb (rowOf s) 0 && not (eqb (s .between) k)) (rw h at e))
 
 -- the walk that begins at the left part of a row, with m bits left there
 abbrev pub leftStart : ℕ → Row → ℕ → Walk
@@ -124,7 +124,7 @@ module _ (table : List ℕ) (h : Header) (k : ℕ) (fine : wrong-header h table 
 
     -- what the last row that the way passed tells, after n rows: by the seek and by the walk
     abbrev from-last : ℕ → Reply
-    from-last n = above-from h (rowAt table) n bits (k / 2 ^ bits) (s .above)
+    from-last n = above-from h (rowAt table) n bits (k / 2 ^ bits) (aboveOf s)
 
     abbrev by-walk : Walk → ℕ → Reply
     by-walk w n = above-from h (rowAt table) n (w .bits) (w .path) (w .above)
@@ -158,7 +158,7 @@ module _ (table : List ℕ) (h : Header) (k : ℕ) (fine : wrong-header h table 
         → from-last (h .width - bits + 1) ≡ prevReply h table k
     at-row r g is =
         let at : g .walk .stage ≡ AtRow = g .ends .0 in
-        let key-is : g .walk .entry .key ≡ rowAt table (s .row) .entry .key
+        let key-is : g .walk .entry .key ≡ rowAt table (rowOf s) .entry .key
         = ap (λ e. e .key) (g .ends .2) ∙ ap (λ (q : Row). q .entry .key) (g .ends .1 ∙ ap (rowAt table) (sym (g .row))) in
         let large : ltb (g .walk .entry .key) k ≡ false = rw key-is (not-less (rowAt table) (h .count) k s r is) in
         let read : h .width - bits + 1 ≡ rowsRead (g .walk) (h .width) = rw (at, same-bits (Ends.the-variants.Row r) g) in
@@ -193,7 +193,7 @@ module _ {table : List ℕ} {h : Header} {k : ℕ} {s : Seek} {e : End} (g : Sto
   read = rowsTo e (h .width - left-bits)
 
   abbrev last : Row
-  last = rowAt table (s .above)
+  last = rowAt table (aboveOf s)
 
   went : SeekEnds (rowAt table) h (shown h table) k s e
   went = subst (λ (x : End). SeekEnds (rowAt table) h (shown h table) k s x) (sym (g .end-is)) (seek-ends table h k (g .fine) (g .small) s (g .sought) (g .some))
@@ -234,7 +234,7 @@ module _ {table : List ℕ} {h : Header} {k : ℕ} {s : Seek} {e : End} (g : Sto
         let most : left-bits ≤ 31 = omega (arith, few-bits) in
         omega (arith, mask-is, pow-mono most, pow-pos left-bits)
 
-    pub last-used : s .above < capacity table
+    pub last-used : aboveOf s < capacity table
     last-used =
         let fewer : went .walk .bits < h .width = rw (← bits-so) less in
         let used : went .walk .above < went .walk .count = went .walked .walking .memory .above-used fewer in
@@ -250,7 +250,7 @@ module _ {table : List ℕ} {h : Header} {k : ℕ} {s : Seek} {e : End} (g : Sto
     abbrev aside : Bool
     aside = isSide right (sideOf (k / 2 ^ left-bits % 2)) && not (eqb (last .left) 0)
 
-    by-side : (b : Bool) → aside ≡ b → told-last read ≡ above-by h (rowAt table) read left-bits (s .above) b
+    by-side : (b : Bool) → aside ≡ b → told-last read ≡ above-by h (rowAt table) read left-bits (aboveOf s) b
     by-side b side-is = rw (lt-ltb left-bits (h .width) less, side-is)
 
     aside-is : (b : Bool) → eqb (leftIfRight k left-bits last) 0 ≡ b → aside ≡ not b
@@ -263,7 +263,7 @@ module _ {table : List ℕ} {h : Header} {k : ℕ} {s : Seek} {e : End} (g : Sto
       pub left-of-last : (leftIfRight k left-bits last ≡ 0 → ⊥)
           → greatestBy h (rowAt table) read (leftStart (h .count) last left-bits) ≡ prevReply h table k
       left-of-last there =
-          let part-is : below (rowAt table) (h .count) (suc left-bits) (s .above) left ≡ treeAt (rowAt table) (leftStart (h .count) last left-bits)
+          let part-is : below (rowAt table) (h .count) (suc left-bits) (aboveOf s) left ≡ treeAt (rowAt table) (leftStart (h .count) last left-bits)
           = followed _ (last .left) (λ none. there (no-left (eqb (k / 2 ^ left-bits % 2) 0) (last .left) none)) in
           ap (λ (t : Tree). then-by h read (way (down right) left-bits t)) (sym part-is)
           ∙ sym (by-side true (aside-is false (ne-eqb _ 0 there)))

@@ -40,14 +40,14 @@ rises-within rows top top′ end (suc n) i low more h = (lt-of-lt-of-le (h .0) m
 pub record Pushed (rows : ℕ → Row) (n m i low : ℕ) (v : Way) : Type 0 where
   pub number : v .bits + length (v .passed) ≡ m
   pub takes : (e : Entry) → pushed (fromCode e) (v .passed) ≡ takes-from rows (v .bits) (length (v .passed)) i e
-  pub left-key : (e : Entry) → left-over (fromCode e) (v .passed) .key ≡ left-from rows (v .bits) (length (v .passed)) i e .key
+  pub left-entry : (e : Entry) → left-over (fromCode e) (v .passed) ≡ fromCode (left-from rows (v .bits) (length (v .passed)) i e)
   pub rising : Rising rows n (v .bits) (length (v .passed)) i low
 
 module _ (rows : ℕ → Row) (n : ℕ) where
   -- a push that passes no row
   pub none-pushed : (m i low : ℕ) (t : Tree) → Pushed rows n m i low (ending m t)
   unfolding pushed left-over takes-from left-from Rising
-  none-pushed m i low t = record { number = add-zero m; takes = λ e. refl; left-key = λ e. refl; rising = tt }
+  none-pushed m i low t = record { number = add-zero m; takes = λ e. refl; left-entry = λ e. refl; rising = tt }
 
   -- a row, and then the push from the row to which its key goes
   one-pushed : (m i low : ℕ) (l r : Tree) (v : Way) → i < n → low ≤ rows i .entry .key
@@ -59,10 +59,10 @@ module _ (rows : ℕ → Row) (n : ℕ) where
       record {
         number = add-suc (v .bits) (length (v .passed)) ∙ ap suc (p .number);
         takes = λ e. rw (p .number, p .takes (rows i .entry));
-        left-key =
+        left-entry =
             λ e.
-            p .left-key (rows i .entry)
-            ∙ ap (λ (b : ℕ). left-from rows (v .bits) (length (v .passed)) (onward rows b i) (rows i .entry) .key) (sym (p .number));
+            p .left-entry (rows i .entry)
+            ∙ ap (λ (b : ℕ). fromCode (left-from rows (v .bits) (length (v .passed)) (onward rows b i) (rows i .entry))) (sym (p .number));
         rising = rw (p .number) (used, risen, p .rising);
       }
 

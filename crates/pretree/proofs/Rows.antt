@@ -1,9 +1,8 @@
--- The laws of a table's rows under the three writes: what stands in the row that is written, that every other row and every word past the rows
+-- The laws of a table's rows under the writes: what stands in the row that is written, that every other row and every word past the rows
 -- stays, and that the length stays. Other files and crates use these and look at no word of a row themselves.
 use Prim.Native.Nat.{ℕ, suc, _+_, _*_, _≤_, _<_}
 use mathlib.Core.Path.{_≡_, refl, ap, _∙_}
 use mathlib.Core.List.{List, [], _∷_, _++_}
-use native.Mathlib.Numerals.{add-one, add-two}
 use native.Mathlib.Omega.{arith}
 use lib.ListN.{length, getD, set, length-set}
 use lib.Seq.{getD-set-same, getD-set-other, length-sets, set-getD, getD-append-seam, getD-append-add}
@@ -14,7 +13,7 @@ use Rattle.ordered.specs.Way.{Step}
 use Rattle.ordered.specs.Change.{Take}
 use Rattle.ordered.proofs.Parts.{All, none-all, one-all}
 use Rattle.pretree.specs.declared.Row.{Row}
-use Rattle.pretree.specs.Table.{rowWords, capacity, toCode, rowAt, link, withEntry, withLink, withRow, cleared}
+use Rattle.pretree.specs.Table.{rowWords, capacity, toCode, rowAt, link, withEntry, withSerial, withLink, withRow, cleared}
 use Rattle.pretree.specs.Add.{taking, hooking}
 
 -- row i lies in the table
@@ -39,53 +38,98 @@ linking right j r = record { entry = r .entry; left = r .left; right = j }
 
 -- the row that is written
 module _ (i : ℕ) (table : List ℕ) (room : HasRow table i) where
+  abbrev at : ℕ
+  at = rowWords * i
+
   pub entry-written : (e : Entry) → rowAt (withEntry i e table) i ≡ holding e (rowAt table i)
-  unfolding rowAt withEntry
+  unfolding rowAt withEntry withSerial
   entry-written e =
-      let at : ℕ = rowWords * i in
-      let one : at + 1 ≡ at → ⊥ = λ e. omega arith in
-      let two : at + 2 ≡ at → ⊥ = λ e. omega arith in
-      let fits : at < length table = omega arith in
-      rw (getD-set-same table at (e .key) 0, getD-set-other table at (at + 1) (e .key) 0, getD-set-other table at (at + 2) (e .key) 0)
+      let keyed : List ℕ = set table at (e .key) in
+      let key-fits : at < length table = omega arith in
+      let serial-fits : at + 3 < length keyed = omega (arith, length-set table at (e .key)) in
+      let k3 : at ≡ at + 3 → ⊥ = λ e. omega arith in
+      let l3 : at + 1 ≡ at + 3 → ⊥ = λ e. omega arith in
+      let r3 : at + 2 ≡ at + 3 → ⊥ = λ e. omega arith in
+      let l0 : at + 1 ≡ at → ⊥ = λ e. omega arith in
+      let r0 : at + 2 ≡ at → ⊥ = λ e. omega arith in
+      rw (
+        getD-set-other keyed (at + 3) at (e .serial) 0,
+        getD-set-same table at (e .key) 0,
+        getD-set-same keyed (at + 3) (e .serial) 0,
+        getD-set-other keyed (at + 3) (at + 1) (e .serial) 0,
+        getD-set-other table at (at + 1) (e .key) 0,
+        getD-set-other keyed (at + 3) (at + 2) (e .serial) 0,
+        getD-set-other table at (at + 2) (e .key) 0,
+      )
 
   pub link-written : (s : Side) (j : ℕ) → rowAt (withLink i s j table) i ≡ linking s j (rowAt table i)
   unfolding rowAt withLink
   link-written left j =
-      let at : ℕ = rowWords * i in
       let place : at + 1 + 0 ≡ at + 1 = omega arith in
-      let one : at ≡ at + 1 → ⊥ = λ e. omega arith in
+      let zero : at ≡ at + 1 → ⊥ = λ e. omega arith in
       let two : at + 2 ≡ at + 1 → ⊥ = λ e. omega arith in
+      let three : at + 3 ≡ at + 1 → ⊥ = λ e. omega arith in
       let fits : at + 1 < length table = omega arith in
-      rw (place, getD-set-same table (at + 1) j 0, getD-set-other table (at + 1) at j 0, getD-set-other table (at + 1) (at + 2) j 0)
+      rw (
+        place,
+        getD-set-same table (at + 1) j 0,
+        getD-set-other table (at + 1) at j 0,
+        getD-set-other table (at + 1) (at + 2) j 0,
+        getD-set-other table (at + 1) (at + 3) j 0,
+      )
   link-written right j =
-      let at : ℕ = rowWords * i in
       let place : at + 1 + 1 ≡ at + 2 = omega arith in
-      let one : at ≡ at + 2 → ⊥ = λ e. omega arith in
-      let two : at + 1 ≡ at + 2 → ⊥ = λ e. omega arith in
+      let zero : at ≡ at + 2 → ⊥ = λ e. omega arith in
+      let one : at + 1 ≡ at + 2 → ⊥ = λ e. omega arith in
+      let three : at + 3 ≡ at + 2 → ⊥ = λ e. omega arith in
       let fits : at + 2 < length table = omega arith in
-      rw (place, getD-set-same table (at + 2) j 0, getD-set-other table (at + 2) at j 0, getD-set-other table (at + 2) (at + 1) j 0)
+      rw (
+        place,
+        getD-set-same table (at + 2) j 0,
+        getD-set-other table (at + 2) at j 0,
+        getD-set-other table (at + 2) (at + 1) j 0,
+        getD-set-other table (at + 2) (at + 3) j 0,
+      )
 
   pub row-written : (r : Row) → rowAt (withRow i r table) i ≡ r
   unfolding rowAt withRow
   row-written r =
-      let at : ℕ = rowWords * i in
-      let one : List ℕ = set table at (r .entry .key) in
-      let two : List ℕ = set one (suc at) (r .left) in
-      let fits1 : at < length table = omega arith in
-      let fits2 : suc at < length one = omega (arith, length-set table at (r .entry .key)) in
-      let fits3 : suc (suc at) < length two = omega (arith, length-set table at (r .entry .key), length-set one (suc at) (r .left)) in
-      let d1 : at ≡ suc (suc at) → ⊥ = λ e. omega arith in
-      let d2 : at ≡ suc at → ⊥ = λ e. omega arith in
-      let d3 : suc at ≡ suc (suc at) → ⊥ = λ e. omega arith in
+      let a : ℕ = suc at in
+      let b : ℕ = suc (suc at) in
+      let c : ℕ = suc (suc (suc at)) in
+      let k : List ℕ = set table at (r .entry .key) in
+      let l : List ℕ = set k a (r .left) in
+      let m : List ℕ = set l b (r .right) in
+      let long-k : length k ≡ length table = length-set table at (r .entry .key) in
+      let long-l : length l ≡ length k = length-set k a (r .left) in
+      let long-m : length m ≡ length l = length-set l b (r .right) in
+      let one : at + 1 ≡ a = omega arith in
+      let two : at + 2 ≡ b = omega arith in
+      let three : at + 3 ≡ c = omega arith in
+      let fits-k : at < length table = omega arith in
+      let fits-l : a < length k = omega (arith, long-k) in
+      let fits-m : b < length l = omega (arith, long-k, long-l) in
+      let fits-s : c < length m = omega (arith, long-k, long-l, long-m) in
+      let k1 : at ≡ a → ⊥ = λ e. omega arith in
+      let k2 : at ≡ b → ⊥ = λ e. omega arith in
+      let k3 : at ≡ c → ⊥ = λ e. omega arith in
+      let l2 : a ≡ b → ⊥ = λ e. omega arith in
+      let l3 : a ≡ c → ⊥ = λ e. omega arith in
+      let r3 : b ≡ c → ⊥ = λ e. omega arith in
       rw (
-        add-one,
-        add-two,
-        getD-set-other two (suc (suc at)) at (r .right) 0,
-        getD-set-other one (suc at) at (r .left) 0,
+        one,
+        two,
+        three,
+        getD-set-other m c at (r .entry .serial) 0,
+        getD-set-other l b at (r .right) 0,
+        getD-set-other k a at (r .left) 0,
         getD-set-same table at (r .entry .key) 0,
-        getD-set-other two (suc (suc at)) (suc at) (r .right) 0,
-        getD-set-same one (suc at) (r .left) 0,
-        getD-set-same two (suc (suc at)) (r .right) 0,
+        getD-set-other m c a (r .entry .serial) 0,
+        getD-set-other l b a (r .right) 0,
+        getD-set-same k a (r .left) 0,
+        getD-set-other m c b (r .entry .serial) 0,
+        getD-set-same l b (r .right) 0,
+        getD-set-same m c (r .entry .serial) 0,
       )
 
 -- every other row
@@ -96,11 +140,19 @@ module _ (i : ℕ) (table : List ℕ) (l : ℕ) (apart : l ≡ i → ⊥) where
       let zero-off : rowWords * l ≡ p → ⊥ = λ e. omega arith in
       let one-off : rowWords * l + 1 ≡ p → ⊥ = λ e. omega arith in
       let two-off : rowWords * l + 2 ≡ p → ⊥ = λ e. omega arith in
-      rw (getD-set-other xs p (rowWords * l) v 0, getD-set-other xs p (rowWords * l + 1) v 0, getD-set-other xs p (rowWords * l + 2) v 0)
+      let three-off : rowWords * l + 3 ≡ p → ⊥ = λ e. omega arith in
+      rw (
+        getD-set-other xs p (rowWords * l) v 0,
+        getD-set-other xs p (rowWords * l + 1) v 0,
+        getD-set-other xs p (rowWords * l + 2) v 0,
+        getD-set-other xs p (rowWords * l + 3) v 0,
+      )
 
   pub entry-elsewhere : (e : Entry) → rowAt (withEntry i e table) l ≡ rowAt table l
-  unfolding withEntry
-  entry-elsewhere e = word-elsewhere (rowWords * i) (e .key) table (omega arith) (omega arith)
+  unfolding withEntry withSerial
+  entry-elsewhere e =
+      word-elsewhere (rowWords * i + 3) (e .serial) (set table (rowWords * i) (e .key)) (omega arith) (omega arith)
+      ∙ word-elsewhere (rowWords * i) (e .key) table (omega arith) (omega arith)
 
   pub link-elsewhere : (s : Side) (j : ℕ) → rowAt (withLink i s j table) l ≡ rowAt table l
   unfolding withLink
@@ -111,28 +163,51 @@ module _ (i : ℕ) (table : List ℕ) (l : ℕ) (apart : l ≡ i → ⊥) where
   unfolding withRow
   row-elsewhere r =
       let at : ℕ = rowWords * i in
-      let one : List ℕ = set table at (r .entry .key) in
-      let two : List ℕ = set one (suc at) (r .left) in
-      word-elsewhere (suc (suc at)) (r .right) two (omega arith) (omega arith)
-      ∙ word-elsewhere (suc at) (r .left) one (omega arith) (omega arith)
+      let k : List ℕ = set table at (r .entry .key) in
+      let l : List ℕ = set k (suc at) (r .left) in
+      let m : List ℕ = set l (suc (suc at)) (r .right) in
+      word-elsewhere (suc (suc (suc at))) (r .entry .serial) m (omega arith) (omega arith)
+      ∙ word-elsewhere (suc (suc at)) (r .right) l (omega arith) (omega arith)
+      ∙ word-elsewhere (suc at) (r .left) k (omega arith) (omega arith)
       ∙ word-elsewhere at (r .entry .key) table (omega arith) (omega arith)
 
 -- a write of an entry leaves every link
 pub link-stays : (i : ℕ) (e : Entry) (table : List ℕ) (j : ℕ) (s : Side) → link (rowAt (withEntry i e table) j) s ≡ link (rowAt table j) s
+unfolding rowAt withEntry withSerial
+link-stays i e table j left =
+    getD-set-other (set table (rowWords * i) (e .key)) (rowWords * i + 3) (rowWords * j + 1) (e .serial) 0 (λ same. omega arith)
+    ∙ getD-set-other table (rowWords * i) (rowWords * j + 1) (e .key) 0 (λ same. omega arith)
+link-stays i e table j right =
+    getD-set-other (set table (rowWords * i) (e .key)) (rowWords * i + 3) (rowWords * j + 2) (e .serial) 0 (λ same. omega arith)
+    ∙ getD-set-other table (rowWords * i) (rowWords * j + 2) (e .key) 0 (λ same. omega arith)
+
+-- a write of a serial leaves every key and every link
+module _ (i serial : ℕ) (table : List ℕ) (j : ℕ) where
+  pub key-stays : rowAt (withSerial i serial table) j .entry .key ≡ rowAt table j .entry .key
+  unfolding rowAt withSerial
+  key-stays = getD-set-other table (rowWords * i + 3) (rowWords * j) serial 0 (λ same. omega arith)
+
+  pub links-stay : (s : Side) → link (rowAt (withSerial i serial table) j) s ≡ link (rowAt table j) s
+  unfolding rowAt withSerial
+  links-stay left = getD-set-other table (rowWords * i + 3) (rowWords * j + 1) serial 0 (λ same. omega arith)
+  links-stay right = getD-set-other table (rowWords * i + 3) (rowWords * j + 2) serial 0 (λ same. omega arith)
+
+-- a row that takes an entry with the key that it has changes its serial alone
+pub own-key : (i : ℕ) (e : Entry) (table : List ℕ) → e .key ≡ rowAt table i .entry .key → withEntry i e table ≡ withSerial i (e .serial) table
 unfolding rowAt withEntry
-link-stays i e table j left = getD-set-other table (rowWords * i) (rowWords * j + 1) (e .key) 0 (λ same. omega arith)
-link-stays i e table j right = getD-set-other table (rowWords * i) (rowWords * j + 2) (e .key) 0 (λ same. omega arith)
+own-key i e table own = ap (λ k. withSerial i (e .serial) (set table (rowWords * i) k)) own ∙ ap (withSerial i (e .serial)) (set-getD table (rowWords * i) 0)
 
 -- a row that takes the entry that it has stays as it is
 pub own-entry : (i : ℕ) (e : Entry) (table : List ℕ) → toCode e ≡ rowAt table i .entry → withEntry i e table ≡ table
-unfolding rowAt withEntry
+unfolding rowAt withSerial
 own-entry i e table own =
-    ap (λ k. set table (rowWords * i) k) (ap (λ x. x .key) own) ∙ set-getD table (rowWords * i) 0
+    own-key i e table (ap (λ x. x .key) own)
+    ∙ ap (λ s. set table (rowWords * i + 3) s) (ap (λ x. x .serial) own) ∙ set-getD table (rowWords * i + 3) 0
 
 -- no write changes the length
 pub entry-length : (i : ℕ) (e : Entry) (table : List ℕ) → length (withEntry i e table) ≡ length table
-unfolding withEntry
-entry-length i e table = length-set table (rowWords * i) (e .key)
+unfolding withEntry withSerial
+entry-length i e table = length-set (set table (rowWords * i) (e .key)) (rowWords * i + 3) (e .serial) ∙ length-set table (rowWords * i) (e .key)
 
 pub link-length : (i : ℕ) (s : Side) (j : ℕ) (table : List ℕ) → length (withLink i s j table) ≡ length table
 unfolding withLink
@@ -140,7 +215,7 @@ link-length i s j table = length-set table (rowWords * i + 1 + bitOf s) j
 
 pub row-length : (i : ℕ) (r : Row) (table : List ℕ) → length (withRow i r table) ≡ length table
 unfolding withRow
-row-length i r table = length-sets table (rowWords * i) (r .entry .key ∷ r .left ∷ r .right ∷ [])
+row-length i r table = length-sets table (rowWords * i) (r .entry .key ∷ r .left ∷ r .right ∷ r .entry .serial ∷ [])
 
 pub taking-length : (ts : List Take) (table : List ℕ) → length (taking ts table) ≡ length table
 unfolding taking
@@ -157,8 +232,10 @@ module _ (c p : ℕ) (past : rowWords * c ≤ p) (i : ℕ) (used : i < c) (table
   word-past q v xs within = getD-set-other xs q p v 0 (λ same. omega arith)
 
   pub entry-past : (e : Entry) → getD (withEntry i e table) p 0 ≡ getD table p 0
-  unfolding withEntry
-  entry-past e = word-past (rowWords * i) (e .key) table (omega arith)
+  unfolding withEntry withSerial
+  entry-past e =
+      word-past (rowWords * i + 3) (e .serial) (set table (rowWords * i) (e .key)) (omega arith)
+      ∙ word-past (rowWords * i) (e .key) table (omega arith)
 
   pub link-past : (s : Side) (j : ℕ) → getD (withLink i s j table) p 0 ≡ getD table p 0
   unfolding withLink
@@ -169,10 +246,11 @@ module _ (c p : ℕ) (past : rowWords * c ≤ p) (i : ℕ) (used : i < c) (table
   unfolding withRow
   row-past r =
       let at : ℕ = rowWords * i in
-      let one : List ℕ = set table at (r .entry .key) in
-      let two : List ℕ = set one (suc at) (r .left) in
-      word-past (suc (suc at)) (r .right) two (omega arith) ∙ word-past (suc at) (r .left) one (omega arith)
-      ∙ word-past at (r .entry .key) table (omega arith)
+      let k : List ℕ = set table at (r .entry .key) in
+      let l : List ℕ = set k (suc at) (r .left) in
+      let m : List ℕ = set l (suc (suc at)) (r .right) in
+      word-past (suc (suc (suc at))) (r .entry .serial) m (omega arith) ∙ word-past (suc (suc at)) (r .right) l (omega arith)
+      ∙ word-past (suc at) (r .left) k (omega arith) ∙ word-past at (r .entry .key) table (omega arith)
 
 -- two tables with the same words in a row have the same row there
 pub same-row :
@@ -184,6 +262,7 @@ same-row table table′ i same =
       same (rowWords * i) (omega arith) (omega arith),
       same (rowWords * i + 1) (omega arith) (omega arith),
       same (rowWords * i + 2) (omega arith) (omega arith),
+      same (rowWords * i + 3) (omega arith) (omega arith),
     )
 
 -- and a row of zeros is a cleared row
@@ -195,19 +274,20 @@ zero-row table i zeros =
       zeros (rowWords * i) (omega arith) (omega arith),
       zeros (rowWords * i + 1) (omega arith) (omega arith),
       zeros (rowWords * i + 2) (omega arith) (omega arith),
+      zeros (rowWords * i + 3) (omega arith) (omega arith),
     )
 
 -- a row as words
 abbrev pub rowAsWords : Row → List ℕ
-rowAsWords r = r .entry .key ∷ r .left ∷ r .right ∷ []
+rowAsWords r = r .entry .key ∷ r .left ∷ r .right ∷ r .entry .serial ∷ []
 
--- what holds of the word of its entry and of both links holds of each of its words
-pub each-in-row : (P : ℕ → Type 0) (r : Row) → P (r .entry .key) → ((s : Side) → P (link r s)) → All P (rowAsWords r)
-each-in-row P r own links = one-all own (one-all (links left) (one-all (links right) none-all))
+-- what holds of the word of its entry, of its serial and of both links holds of each of its words
+pub each-in-row : (P : ℕ → Type 0) (r : Row) → P (r .entry .key) → P (r .entry .serial) → ((s : Side) → P (link r s)) → All P (rowAsWords r)
+each-in-row P r own stored links = one-all own (one-all (links left) (one-all (links right) (one-all stored none-all)))
 
 -- the row that is read where those words stand
 pub row-read : (i : ℕ) (r : Row) (before rest : List ℕ) → length before ≡ rowWords * i → rowAt (before ++ (rowAsWords r ++ rest)) i ≡ r
 unfolding rowAt
 row-read i r before rest at =
-    let words : List ℕ = r .entry .key ∷ r .left ∷ r .right ∷ rest in
-    rw (← at, getD-append-seam, getD-append-add before words 1 0, getD-append-add before words 2 0)
+    let words : List ℕ = r .entry .key ∷ r .left ∷ r .right ∷ r .entry .serial ∷ rest in
+    rw (← at, getD-append-seam, getD-append-add before words 1 0, getD-append-add before words 2 0, getD-append-add before words 3 0)

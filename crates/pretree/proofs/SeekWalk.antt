@@ -1,5 +1,5 @@
 -- The walk of the word's way beside a seek: it passes a row as the seek does, and where the seek stops it ends.
-use Prim.Native.Nat.{ℕ, zero, suc, _-_, _/_, _%_, _^_, _≤_, _<_}
+use Prim.Native.Nat.{ℕ, zero, suc, _*_, _-_, _/_, _%_, _^_, _≤_, _<_}
 use mathlib.Core.Path.{_≡_, refl, sym, ap, _∙_, subst}
 use mathlib.Core.List.{List}
 use mathlib.Core.Bool.{Bool, true, false, not, _&&_, true≢false}
@@ -19,13 +19,14 @@ use Rattle.pretree.specs.declared.Row as Rows
 use Rattle.pretree.specs.declared.leg.End.{End}
 use Rattle.pretree.specs.declared.leg.End.the-variants.{None, Row, Damage}
 use Rattle.pretree.specs.declared.seek.Seek.{Seek}
-use Rattle.pretree.specs.Table.{entryOf, rowAt, link}
+use Rattle.pretree.specs.Table.{rowWords, entryOf, rowAt, link}
 use Rattle.pretree.specs.Unfold.{ends-there, shown}
 use Rattle.pretree.specs.Walk.{Walk, Stage, On, AtNone, AtRow, AtDamage}
 use Rattle.pretree.specs.Walk.{started, isOn, holds, ended, remembering, passed, turned, stageAt, met, seeking, seekTurn, Walking}
 use Rattle.pretree.specs.Leg.{EndsSo}
-use Rattle.pretree.specs.Seek.{begun, passes, goesOn, gone, turn, endOf, asideOf, spanOf, Shows, OnSeek, SeekEnds}
+use Rattle.pretree.specs.Seek.{rowOf, begun, passes, goesOn, gone, turn, endOf, asideOf, spanOf, Shows, OnSeek, SeekEnds}
 use Rattle.pretree.specs.Seek as Seeks
+use Rattle.pretree.proofs.Writing.{row-back}
 use Rattle.pretree.proofs.Between.{below-in, below-few, above-in, above-near, half-mask, turns-so, next-rest, side-of-bit}
 use Rattle.pretree.proofs.Walking.{keeps, begins-root}
 use Rattle.pretree.proofs.Seeking.{seek-says}
@@ -106,8 +107,8 @@ module _ (rows : ℕ → Rows.Row) (k : ℕ) (s : Seek) (w : Walk) (sh : Shows r
         → Shows rows k (past-here l) (passed v (entryOf here) (bitOf (side m k)) l)
     link-shows v l same-row same-bits same-path same-aside same-span =
         record {
-          row = refl;
-          at = refl;
+          row = row-back l;
+          at = ap (λ i. rowWords * i) (sym (row-back l));
           mask = rw (sh .mask, same-bits, bits) (half-mask m);
           tail = rw (sh .tail, sh .mask, same-bits, bits) (next-rest m k);
           between = omega (arith, p .less);
@@ -175,7 +176,7 @@ module _ (rows : ℕ → Rows.Row) (k : ℕ) (s : Seek) (w : Walk) (sh : Shows r
     linked moved = sh .stage ∙ rw (ne-eqb (w .low) 0 moved)
 
     -- a link past the rows in use
-    pub ends-outside : 0 < h .count → h .count ≤ s .row → Ends Damage
+    pub ends-outside : 0 < h .count → h .count ≤ rowOf s → Ends Damage
     ends-outside some past =
         let off-root : w .row ≡ 0 → ⊥ = λ e. omega (arith, sh .row) in
         let unused : w .count ≤ w .row = omega (arith, sh .row, g .same-count) in
@@ -224,8 +225,8 @@ module _ (rows : ℕ → Rows.Row) (k : ℕ) (s : Seek) (w : Walk) (sh : Shows r
       low-small = omega (arith, sh .between)
 
       -- a key less than the word that is not passed: the link led nowhere, or the key is damage
-      below : key < k → passes s k key ≡ false → Ends (if eqb (s .row) 0 && not (eqb (s .between) k) then None else Damage)
-      below less not-passed = go (eqb (s .row) 0) (eqb (s .between) k) refl refl
+      below : key < k → passes s k key ≡ false → Ends (if eqb (rowOf s) 0 && not (eqb (s .between) k) then None else Damage)
+      below less not-passed = go (eqb (rowOf s) 0) (eqb (s .between) k) refl refl
         where
           too-small : s .between ≤ k - 1 - key → holds w here ≡ false
           too-small far = let small : key < w .low = omega (arith, sh .between) in rw (lt-leb (w .low) key small)
@@ -249,7 +250,7 @@ module _ (rows : ℕ → Rows.Row) (k : ℕ) (s : Seek) (w : Walk) (sh : Shows r
               by-between false e = too-small (ltb-false _ _ e)
               by-between true e = outside (ltb-false _ _ (rw (lt-ltb key k less, e) at not-passed))
 
-          go : (a b : Bool) → eqb (s .row) 0 ≡ a → eqb (s .between) k ≡ b → Ends (if a && not b then None else Damage)
+          go : (a b : Bool) → eqb (rowOf s) 0 ≡ a → eqb (s .between) k ≡ b → Ends (if a && not b then None else Damage)
           go true true at-0 first =
               let unmoved : w .low ≡ 0 = omega (arith, sh .between, eqb-true (s .between) k first) in
               damaged-here (sh .stage ∙ rw (eq-eqb (w .low) 0 unmoved)) bad
@@ -258,7 +259,7 @@ module _ (rows : ℕ → Rows.Row) (k : ℕ) (s : Seek) (w : Walk) (sh : Shows r
               let nothing : w .stage ≡ AtNone = linked left-root ∙ rw (← sh .row, at-0) in
               ends-at (w .stage) (w .entry) g (rw nothing) None nothing
           go false b not-0 between =
-              let off-root : w .row ≡ 0 → ⊥ = λ e. eqb-false (s .row) 0 not-0 (sh .row ∙ e) in
+              let off-root : w .row ≡ 0 → ⊥ = λ e. eqb-false (rowOf s) 0 not-0 (sh .row ∙ e) in
               let left-root : w .low ≡ 0 → ⊥ = λ e. off-root (sh .at-root e) in
               damaged-here (linked left-root ∙ rw (ne-eqb (w .row) 0 off-root, lt-ltb (w .row) (w .count) in-use)) bad
 
@@ -322,7 +323,7 @@ module _ (rows : ℕ → Rows.Row) (k : ℕ) (s : Seek) (w : Walk) (sh : Shows r
           by-more true e not-less = past (ltb-true k key e)
           by-more false e not-less = let not-more : key ≤ k = ltb-false k key e in same (omega arith)
 
-          by-less : (b : Bool) → ltb key k ≡ b → Ends (if b then (if eqb (s .row) 0 && not (eqb (s .between) k) then None else Damage)
+          by-less : (b : Bool) → ltb key k ≡ b → Ends (if b then (if eqb (rowOf s) 0 && not (eqb (s .between) k) then None else Damage)
               else if ltb k key then (if ltb (s .mask - s .tail) (key - k) then Damage else Row here)
               else if eqb (s .mask) 0 && not (eqb (here .left) 0 && eqb (here .right) 0) then Damage
               else Row here)
@@ -358,8 +359,8 @@ module _ (table : List ℕ) (h : Header) (k : ℕ) where
 
   -- what is known where the seek goes on: its row is in use and has a lesser key, the walk goes on too, and the mask falls
   pub record Further (s : Seek) : Type 0 where
-    pub used : s .row < h .count
-    pub less : rowAt table (s .row) .entry .key < k
+    pub used : rowOf s < h .count
+    pub less : rowAt table (rowOf s) .entry .key < k
     pub goes : Goes (gone (rowAt table) k s)
     pub falls : s .mask / 2 < s .mask
 
@@ -369,11 +370,11 @@ module _ (table : List ℕ) (h : Header) (k : ℕ) where
       Past : ℕ → Type 0
       Past i = Goes (Seeks.passed s k (rowAt table i .entry .key) (link (rowAt table i) (sideOf (turn s))) (rowAt table i .right))
 
-      used : s .row < h .count
-      used = ltb-true _ _ (both (ltb (s .row) (h .count)) _ on .0)
+      used : rowOf s < h .count
+      used = ltb-true _ _ (both (ltb (rowOf s) (h .count)) _ on .0)
 
-      passing : Passes s k (rowAt table (s .row) .entry .key)
-      passing = passes-so s k _ (both (ltb (s .row) (h .count)) _ on .1)
+      passing : Passes s k (rowAt table (rowOf s) .entry .key)
+      passing = passes-so s k _ (both (ltb (rowOf s) (h .count)) _ on .1)
 
       past : Past (g .walk .row)
       past =

@@ -18,7 +18,7 @@ use Rattle.pretree.specs.Unfold.{shown}
 use Rattle.pretree.specs.Reply.{wrong-header, too-wide}
 use Rattle.pretree.specs.Walk.{Walk}
 use Rattle.pretree.specs.Leg.{Stands}
-use Rattle.pretree.specs.Seek.{bitsLeft, passes, endOf, endAt, placeOf, Shows, Sought, SeekEnds}
+use Rattle.pretree.specs.Seek.{rowOf, bitsLeft, passes, endOf, endAt, placeOf, Shows, Sought, SeekEnds}
 use Rattle.pretree.proofs.Checks.{right-header, narrow}
 use Rattle.pretree.proofs.Between as Between
 use Rattle.pretree.proofs.SeekWalk.{ends-here, ends-outside}
@@ -45,21 +45,21 @@ module _ (table : List ℕ) (h : Header) (k : ℕ) (fine : wrong-header h table 
 
     -- where the seek stops, the walk of the way of k ends
     pub seek-ends : 0 < h .count → SeekEnds (rowAt table) h (shown h table) k s (endAt (rowAt table) (h .count) k s)
-    seek-ends some = go (ltb (s .row) (h .count)) refl
+    seek-ends some = go (ltb (rowOf s) (h .count)) refl
       where
         EndsAt : ℕ → Type 0
         EndsAt i = SeekEnds (rowAt table) h (shown h table) k s (endOf s k (rowAt table i))
 
-        not-passed : s .row < h .count → passes s k (rowAt table (s .row) .entry .key) ≡ false
-        not-passed used = rw (lt-ltb (s .row) (h .count) used) at (g .stopped)
+        not-passed : rowOf s < h .count → passes s k (rowAt table (rowOf s) .entry .key) ≡ false
+        not-passed used = rw (lt-ltb (rowOf s) (h .count) used) at (g .stopped)
 
-        there : s .row < h .count → EndsAt (w .row)
+        there : rowOf s < h .count → EndsAt (w .row)
         there used =
             ends-here (rowAt table) k s w shows h (shown h table) (g .on .walking) (rw (← shows .row) used)
             (subst (λ (i : ℕ). passes s k (rowAt table i .entry .key) ≡ false) (shows .row) (not-passed used))
 
-        go : (b : Bool) → ltb (s .row) (h .count) ≡ b
-            → SeekEnds (rowAt table) h (shown h table) k s (if b then endOf s k (rowAt table (s .row)) else Damage)
+        go : (b : Bool) → ltb (rowOf s) (h .count) ≡ b
+            → SeekEnds (rowAt table) h (shown h table) k s (if b then endOf s k (rowAt table (rowOf s)) else Damage)
         go true e = subst EndsAt (sym (shows .row)) (there (ltb-true _ _ e))
         go false e = ends-outside (rowAt table) k s w shows h (shown h table) (g .on .walking) some (ltb-false _ _ e)
 

@@ -12,10 +12,10 @@ use Rattle.ordered.specs.Way.{way, rows, broken, joined, following, passing-equ
 use Rattle.ordered.specs.Reading.{rowsOf, brokenIn, has, next, prev, last, gap}
 use Rattle.ordered.specs.Change.{adding, pushed, left-over}
 use Rattle.pretree.specs.declared.Header.{Header}
-use Rattle.pretree.specs.Table.{capacity, rowAt, withEntry, withLink, withRow}
+use Rattle.pretree.specs.Table.{capacity, rowAt, withEntry, withSerial, withLink, withRow}
 use Rattle.pretree.specs.Unfold.{unfolded, shown}
 use Rattle.pretree.specs.Sound.{met, times, keysOf, Sound, isSound}
-use Rattle.pretree.specs.Answer.{numberOf, keyOf}
+use Rattle.pretree.specs.Answer.{numberOf, keyOf, serialOf}
 use Rattle.pretree.specs.Reply.{wrong-header, too-wide, fresh}
 use Rattle.pretree.specs.Find.{hasReply, nextReply, prevReply, lastReply, gapReply}
 use Rattle.pretree.specs.Add.{Outcome, addOutcome, grown, taking}
@@ -23,7 +23,7 @@ use Rattle.pretree.specs.Starred.{entry, Held, A, B, C, starred}
 use Rattle.pretree.proofs.SoundTest.{sound-rows}
 
 pub starred-agree : All-agree starred
-unfolding hasReply nextReply prevReply lastReply gapReply has next prev last gap numberOf keyOf unnumbered
+unfolding hasReply nextReply prevReply lastReply gapReply has next prev last gap numberOf keyOf serialOf unnumbered
     shown unfolded rowAt capacity wrong-header too-wide rowsOf brokenIn way rows broken following passing-equal down staying last-such side
 starred-agree = refl
 
@@ -53,6 +53,6 @@ abbrev pub made : Held → List ℕ → Example (Header × List ℕ)
 made s order = adds (fresh (s .header .width)) (replicate (length (s .table)) 0) order is (s .header, s .table)
 
 pub made-by-adds : All-agree (made A (8 ∷ 4 ∷ 11 ∷ 15 ∷ []) ∷ made B (0 ∷ 1 ∷ 2 ∷ 3 ∷ 4 ∷ []) ∷ made C (1 ∷ 0 ∷ []) ∷ [])
-unfolding adds made addOutcome adding pushed left-over grown taking withEntry withLink withRow
+unfolding adds made addOutcome adding pushed left-over grown taking withEntry withSerial withLink withRow
     shown unfolded rowAt capacity wrong-header too-wide way rows broken joined following pushing last-such side
 made-by-adds = refl

@@ -1,6 +1,6 @@
 -- Where a row's words stand in a table.
-use Prim.Native.Nat.{ℕ, zero, suc, _+_, _*_, _≤_, _<_}
-use mathlib.Core.Path.{_≡_, refl}
+use Prim.Native.Nat.{ℕ, zero, suc, _+_, _*_, _/_, _≤_, _<_}
+use mathlib.Core.Path.{_≡_, refl, ap}
 use mathlib.Core.List.{List}
 use native.Mathlib.Nat.{add-zero}
 use native.Mathlib.Omega.{arith}
@@ -33,3 +33,11 @@ row-words table i h = record { within = omega arith; few = omega arith }
 pub same-capacity : (a b : List ℕ) → length a ≡ length b → capacity a ≡ capacity b
 unfolding capacity
 same-capacity a b e = rw e
+
+-- the row that begins at a table word, and its key
+pub row-back : (i : ℕ) → rowWords * i / rowWords ≡ i
+row-back i = omega arith
+
+pub key-read : (table : List ℕ) (at i : ℕ) → at ≡ rowWords * i → getD table at 0 ≡ rowAt table i .entry .key
+unfolding rowAt
+key-read table at i begins = ap (λ p. getD table p 0) begins

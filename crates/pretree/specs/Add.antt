@@ -1,5 +1,6 @@
 -- `add` on every header, table and entry: its reply, and the table after it.
 -- Document 01: "Order: 9, 1, 2, 3, 4, then 7 or 8, then 5"; "All of it is judged before anything is written."
+-- Document 02 §1: "An `add` of a word already there still answers 7, but now stores the new serial."
 use Prim.Native.Nat.{ℕ, suc}
 use mathlib.Core.List.{List, [], _∷_}
 use lib.Dec.{eqb}
@@ -15,8 +16,8 @@ use Rattle.pretree.specs.Unfold.{shown}
 use Rattle.pretree.specs.Reply.{wrong-header, too-wide, refused, answered}
 
 -- the entry that `add` of a word puts into the set
-abbrev pub entryFor : ℕ → Entry
-entryFor k = record { key = k }
+abbrev pub entryFor : ℕ → ℕ → Entry
+entryFor k serial = record { key = k; serial = serial }
 
 -- each row takes its entry
 unfoldable pub taking : List Take → List ℕ → List ℕ
@@ -43,9 +44,10 @@ addOutcome h table e =
     let a : Adding = adding (h .width) e (shown h table) in
     let more : Header = record { width = h .width; count = suc (h .count) } in
     let after : List ℕ = grown (h .count) a table in
+    let stored : List ℕ = taking (a .takes) table in
     if wrong-header h table then record { reply = refused h WrongHeader; table = table }
     else if too-wide h (e .key) then record { reply = refused h WordTooWide; table = table }
     else if broken (a .rows-read) then record { reply = refused h Damage; table = table }
-    else if a .present then record { reply = answered h AlreadyThere (rows (a .rows-read)); table = table }
+    else if a .present then record { reply = answered h AlreadyThere (rows (a .rows-read)); table = stored }
     else if eqb (h .count) (capacity table) then record { reply = refused h Full; table = table }
     else record { reply = answered more Done (rows (a .rows-read)); table = after }

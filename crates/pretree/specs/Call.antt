@@ -20,8 +20,8 @@ pub record After : Type 0 where
 -- each line is the contract of that call
 unfoldable pub after : Call → Header → List ℕ → List ℕ → After
 after (New w) h table buffer = record { reply = newReply h w; table = newTable table w; buffer = buffer }
-after (Add k) h table buffer =
-    let added : Outcome = addOutcome h table (entryFor k) in
+after (Add k serial) h table buffer =
+    let added : Outcome = addOutcome h table (entryFor k serial) in
     record { reply = added .reply; table = added .table; buffer = buffer }
 after (Del k) h table buffer = record { reply = delOutcome h table k .reply; table = delOutcome h table k .table; buffer = buffer }
 after (Has k) h table buffer = record { reply = hasReply h table k; table = table; buffer = buffer }

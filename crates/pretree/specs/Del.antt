@@ -1,6 +1,6 @@
 -- `del` on every header, table and word: its reply, and the table after it.
 -- Document 01: "The order is: keys up, unlink, move, set the link. The rows of the second way are the moving count; it is 0 where nothing
--- moves, and in every other call. Row count−1 is then three zeros."
+-- moves, and in every other call." Document 02 §1: "cleared rows hold four zeros".
 use Prim.Native.Nat.{ℕ, pred}
 use mathlib.Core.Bool.{Bool, true, false, not, _&&_, _||_}
 use mathlib.Core.List.{List, [], _∷_}

@@ -7,7 +7,7 @@ use Rattle.ordered.specs.Such.{if_then_else_, Perhaps, no-such, such}
 use Rattle.ordered.specs.Reading.{Found, wordIn, Reading, rowsOf, brokenIn, has, next, prev, first, last, gap}
 use Rattle.pretree.specs.declared.Header.{Header}
 use Rattle.pretree.specs.declared.Answer.{Answer}
-use Rattle.pretree.specs.declared.Answer.the-variants.{Done, Word, Distance, WrongHeader, WordTooWide, Damage, NoSuchWord}
+use Rattle.pretree.specs.declared.Answer.the-variants.{Serial, Word, Distance, WrongHeader, WordTooWide, Damage, NoSuchWord}
 use Rattle.pretree.specs.declared.Reply.{Reply}
 use Rattle.pretree.specs.Unfold.{shown}
 use Rattle.pretree.specs.Reply.{wrong-header, too-wide, refused, answered}
@@ -17,8 +17,8 @@ abbrev pub saying : {A : Type 0} → (A → Answer) → Perhaps A → Answer
 saying answer (such x) = answer x
 saying answer no-such = NoSuchWord
 
-abbrev pub done : Found → Answer
-done f = Done
+abbrev pub serial : Found → Answer
+serial f = Serial (f .entry .serial)
 
 abbrev pub word : Found → Answer
 word f = Word (wordIn f)
@@ -32,7 +32,7 @@ read-reply h table wide answer r =
     else answered h (saying answer (r .answer)) (rowsOf (r .ways))
 
 unfoldable pub hasReply : Header → List ℕ → ℕ → Reply
-hasReply h table k = read-reply h table (too-wide h k) done (has (h .width) k (shown h table))
+hasReply h table k = read-reply h table (too-wide h k) serial (has (h .width) k (shown h table))
 
 unfoldable pub nextReply : Header → List ℕ → ℕ → Reply
 nextReply h table k = read-reply h table (too-wide h k) word (next (h .width) k (shown h table))

@@ -9,7 +9,7 @@ use Rattle.ordered.specs.Word.{left, right, sideOf, isSide}
 use Rattle.ordered.specs.Way.{Way, way, rows, broken, staying, down}
 use Rattle.ordered.specs.Reading.{end-row}
 use Rattle.pretree.specs.declared.Header.{Header}
-use Rattle.pretree.specs.declared.Answer.the-variants.{Done, Word, WrongHeader, WordTooWide, Damage, NoSuchWord}
+use Rattle.pretree.specs.declared.Answer.the-variants.{Serial, Word, WrongHeader, WordTooWide, Damage, NoSuchWord}
 use Rattle.pretree.specs.declared.Reply.{Reply}
 use Rattle.pretree.specs.declared.Row.{Row}
 use Rattle.pretree.specs.declared.leg.End.{End}
@@ -30,7 +30,7 @@ refusal h table = if wrong-header h table then refused h WrongHeader else refuse
 -- `has` of k, by the end of its way: n rows were passed, and a row at the end counts as one more
 abbrev pub foundBy : Header → ℕ → ℕ → End → Reply
 foundBy h k n Ends.the-variants.None = answered h NoSuchWord n
-foundBy h k n (Ends.the-variants.Row r) = if eqb k (r .entry .key) then answered h Done (n + 1) else answered h NoSuchWord (n + 1)
+foundBy h k n (Ends.the-variants.Row r) = if eqb k (r .entry .key) then answered h (Serial (r .entry .serial)) (n + 1) else answered h NoSuchWord (n + 1)
 foundBy h k n Ends.the-variants.Damage = refused h Damage
 
 -- the word at which a leg ended: n rows were read before that one

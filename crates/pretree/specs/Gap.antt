@@ -2,7 +2,7 @@
 use Prim.Native.Nat.{ℕ, _-_, _+_, min}
 use Rattle.pretree.specs.declared.Header.{Header}
 use Rattle.pretree.specs.declared.Answer.{Answer}
-use Rattle.pretree.specs.declared.Answer.the-variants.{Done, Word, Distance, WrongWidth, WrongHeader, WordTooWide, Damage, Full, ShortBuffer, AlreadyThere, NoSuchWord}
+use Rattle.pretree.specs.declared.Answer.the-variants.{Done, Serial, Word, Distance, WrongWidth, WrongHeader, WordTooWide, Damage, Full, ShortBuffer, AlreadyThere, NoSuchWord}
 use Rattle.pretree.specs.declared.Reply.{Reply}
 use Rattle.pretree.specs.declared.gap.Neighbour.{Neighbour}
 use Rattle.pretree.specs.declared.gap.Neighbour.the-variants.{At, Nowhere, Unknown}
@@ -13,6 +13,7 @@ abbrev pub neighbour : Answer → Neighbour
 neighbour (Word x) = At x
 neighbour NoSuchWord = Nowhere
 neighbour Done = Unknown
+neighbour (Serial s) = Unknown
 neighbour (Distance d) = Unknown
 neighbour WrongWidth = Unknown
 neighbour WrongHeader = Unknown

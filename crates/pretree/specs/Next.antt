@@ -15,14 +15,14 @@ use Rattle.pretree.specs.declared.seek.Seek.{Seek}
 use Rattle.pretree.specs.Table.{link}
 use Rattle.pretree.specs.Reply.{refused, answered}
 use Rattle.pretree.specs.Leg.{linkEnd}
-use Rattle.pretree.specs.Seek.{bitsLeft, turn, stepped}
+use Rattle.pretree.specs.Seek.{rowOf, bitsLeft, turn, stepped}
 use Rattle.pretree.specs.Found.{wordBy}
 
 -- at the row that the seek wants, if a link led there, else at the right link that it left aside
 abbrev pub nextPlace : Seek → ℕ → Place
 nextPlace s k =
-    if eqb (s .row) 0 then record { row = s .aside; mask = s .span; path = bitOr (k - bitAnd k (s .span)) (suc (s .span)); low = suc k }
-    else record { row = s .row; mask = s .mask; path = k - s .tail; low = suc k }
+    if eqb (rowOf s) 0 then record { row = s .aside; mask = s .span; path = bitOr (k - bitAnd k (s .span)) (suc (s .span)); low = suc k }
+    else record { row = rowOf s; mask = s .mask; path = k - s .tail; low = suc k }
 
 -- the word there, after so many rows
 abbrev pub nextFrom : Header → (ℕ → Rows.Row) → ℕ → Seek → ℕ → Reply

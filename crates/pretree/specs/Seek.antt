@@ -21,9 +21,20 @@ use Rattle.pretree.specs.Walk.{Walk, Stage, On, AtNone, AtRow, AtDamage,
 abbrev pub bitsLeft : ℕ → ℕ
 bitsLeft mask = 32 - leadingZeros 32 mask
 
+-- the row that a seek wants, and the last row that it passed: it holds the table words at which they begin
+abbrev pub rowOf : Seek → ℕ
+rowOf s = s .at / rowWords
+
+abbrev pub aboveOf : Seek → ℕ
+aboveOf s = s .above / rowWords
+
+-- the rows that begin before the table word `past`, where `past` lies three words before the end of a row
+abbrev pub rowsBefore : ℕ → ℕ
+rowsBefore past = (past + 3) / rowWords
+
 abbrev pub begun : ℕ → ℕ → Seek
 begun width k =
-    record { row = 0; at = 0; mask = 2 ^ width - 1; tail = k; between = k; above = 0; aside = 0; span = 0 }
+    record { at = 0; mask = 2 ^ width - 1; tail = k; between = k; above = 0; aside = 0; span = 0 }
 
 -- the words between the key and the word k are fewer than those between the key above and k, and fewer than k's last bits say
 abbrev pub passes : Seek → ℕ → ℕ → Bool
@@ -37,12 +48,11 @@ abbrev pub stepped : Seek → ℕ → ℕ → Seek
 stepped s l r =
     let leaves : Bool = not (ltb (s .mask / 2) (s .tail)) && not (eqb r 0) in
     record {
-      row = l;
       at = rowWords * l;
       mask = s .mask / 2;
       tail = bitAnd (s .tail) (s .mask / 2);
       between = s .between;
-      above = s .row;
+      above = s .at;
       aside = if leaves then r else s .aside;
       span = if leaves then s .mask / 2 else s .span;
     }
@@ -52,7 +62,6 @@ abbrev pub passed : Seek → ℕ → ℕ → ℕ → ℕ → Seek
 passed s k key l r =
     let t : Seek = stepped s l r in
     record {
-      row = t .row;
       at = t .at;
       mask = t .mask;
       tail = t .tail;
@@ -64,27 +73,27 @@ passed s k key l r =
 
 -- whether the row that it wants is in use and is passed
 abbrev pub goesOn : (ℕ → Rows.Row) → ℕ → ℕ → Seek → Bool
-goesOn rows count k s = ltb (s .row) count && passes s k (rows (s .row) .entry .key)
+goesOn rows count k s = ltb (rowOf s) count && passes s k (rows (rowOf s) .entry .key)
 
 -- past that row, by the link to the side that it turns
 abbrev pub gone : (ℕ → Rows.Row) → ℕ → Seek → Seek
-gone rows k s = passed s k (rows (s .row) .entry .key) (link (rows (s .row)) (sideOf (turn s))) (rows (s .row) .right)
+gone rows k s = passed s k (rows (rowOf s) .entry .key) (link (rows (rowOf s)) (sideOf (turn s))) (rows (rowOf s) .right)
 
 -- where the way of k ends, at a row that it does not pass; a link of 0 led it to the root again
 abbrev pub endOf : Seek → ℕ → Rows.Row → End
 endOf s k r =
-    if ltb (r .entry .key) k then (if eqb (s .row) 0 && not (eqb (s .between) k) then None else Damage)
+    if ltb (r .entry .key) k then (if eqb (rowOf s) 0 && not (eqb (s .between) k) then None else Damage)
     else if ltb k (r .entry .key) then (if ltb (s .mask - s .tail) (r .entry .key - k) then Damage else Row r)
     else if eqb (s .mask) 0 && not (eqb (r .left) 0 && eqb (r .right) 0) then Damage
     else Row r
 
 -- and where its link leads past the rows in use
 abbrev pub endAt : (ℕ → Rows.Row) → ℕ → ℕ → Seek → End
-endAt rows count k s = if ltb (s .row) count then endOf s k (rows (s .row)) else Damage
+endAt rows count k s = if ltb (rowOf s) count then endOf s k (rows (rowOf s)) else Damage
 
 -- where the row that it wants stands
 abbrev pub placeOf : Seek → ℕ → Place
-placeOf s k = record { row = s .row; mask = s .mask; path = k - s .tail; low = k - s .between }
+placeOf s k = record { row = rowOf s; mask = s .mask; path = k - s .tail; low = k - s .between }
 
 -- the right link that a walk left aside, if it did so, and the bits left below it as ones
 abbrev pub asideOf : (ℕ → Rows.Row) → Bool → ℕ → ℕ
@@ -97,14 +106,14 @@ spanOf false m = 0
 
 -- the walk w of the way of k is where the seek s is
 pub record Shows (rows : ℕ → Rows.Row) (k : ℕ) (s : Seek) (w : Walk) : Type 0 where
-  pub row : s .row ≡ w .row
-  pub at : s .at ≡ rowWords * s .row
+  pub row : rowOf s ≡ w .row
+  pub at : s .at ≡ rowWords * rowOf s
   pub mask : s .mask ≡ 2 ^ w .bits - 1
   pub tail : s .tail ≡ k % 2 ^ w .bits
   pub between : s .between + w .low ≡ k
   pub path : w .path ≡ k / 2 ^ w .bits
   -- what it remembers
-  pub above : s .above ≡ w .above
+  pub above : aboveOf s ≡ w .above
   pub aside : s .aside ≡ asideOf rows (w .any) (w .aside)
   pub span : s .span ≡ spanOf (w .any) (w .beneath)
   -- it has not left the root, or a link led it here; the root's key is less than any that it may pass now
@@ -128,11 +137,11 @@ pub record SeekEnds (rows : ℕ → Rows.Row) (h : Header) (tree : Tree) (k : �
   pub walk : Walk
   pub walked : Walked rows (seeking k k) (h .width) (h .count) tree walk
   pub ends : EndsSo rows walk e
-  pub row : s .row ≡ walk .row
+  pub row : rowOf s ≡ walk .row
   pub mask : s .mask ≡ 2 ^ walk .bits - 1
   pub tail : s .tail ≡ k % 2 ^ walk .bits
   pub between : s .between + walk .low ≡ k
   pub path : walk .path ≡ k / 2 ^ walk .bits
-  pub above : s .above ≡ walk .above
+  pub above : aboveOf s ≡ walk .above
   pub aside : s .aside ≡ asideOf rows (walk .any) (walk .aside)
   pub span : s .span ≡ spanOf (walk .any) (walk .beneath)

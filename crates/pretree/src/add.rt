@@ -1,4 +1,4 @@
-// `add`: a word is put in its row, and the keys that it displaces are pushed down.
+// `add`: a word is put in its row, and the entries that it displaces are pushed down.
 // Document 01: "All of it is judged before anything is written." The way of the word and then the push are read first; only where nothing is
 // refused any more does a second pass over the push write.
 
@@ -21,6 +21,7 @@ use crate::table::row_at;
 use crate::write::hook;
 use crate::write::put_entry;
 use crate::write::put_row;
+use crate::write::put_serial;
 use crate::write::side_of;
 ghost use mathlib.Core.Path.{_≡_};
 ghost use mathlib.Core.Bool.{false};
@@ -31,15 +32,16 @@ ghost use Rattle.pretree.specs.Add.{entryFor, addOutcome, taking};
 ghost use Rattle.pretree.specs.Push.{takes-from, left-from, Rising, endBits, endSide, Growable, grownOutcome, Displaces};
 
 impl Header {
-    // "`add` k: the way of k. If it ends at a key greater than k, that row takes k and its old key is pushed down".
-    pub fn add(self, table: &mut [u32], word: u32) -> Reply
-        ensures { λ r. ⌜ r ≡ addOutcome self (now (table .entry)) (entryFor word) .reply ⌝ }
-        ensures { λ _. ⌜ now (table .exit) ≡ addOutcome self (now (table .entry)) (entryFor word) .table ⌝ }
+    // "`add` k: the way of k. If it ends at a key greater than k, that row takes k and its old key is pushed down". A word that is there already
+    // "still answers 7, but now stores the new serial".
+    pub fn add(self, table: &mut [u32], word: u32, serial: u32) -> Reply
+        ensures { λ r. ⌜ r ≡ addOutcome self (now (table .entry)) (entryFor word serial) .reply ⌝ }
+        ensures { λ _. ⌜ now (table .exit) ≡ addOutcome self (now (table .entry)) (entryFor word serial) .table ⌝ }
     {
         if self.refuses(table, word) {
             return self.refusal(table);
         }
-        let entry = Entry { key: word };
+        let entry = Entry { key: word, serial };
         if self.count == 0 {
             let start = Leg {
                 at: Place::root(self.width),
@@ -54,15 +56,16 @@ impl Header {
             End::None => self.grown(
                 table,
                 entry,
-                s.row,
+                s.at / Header::ROW,
                 bits_of(s.mask),
                 Leg {
                     at: s.place(word),
-                    above: s.above,
+                    above: s.above / Header::ROW,
                 },
             ),
             End::Row(row) => {
                 if row.entry.key == word {
+                    put_serial(table, s.at / Header::ROW, serial);
                     return self.answered(Answer::AlreadyThere, self.width - bits_of(s.mask) + 1);
                 }
                 self.displaced(table, entry, s.place(word), row)

@@ -76,7 +76,7 @@ impl Header {
             End::None => self.answered(Answer::NoSuchWord, passed),
             End::Row(row) => {
                 if row.entry.key == word {
-                    return self.erased(table, s.place(word), s.above);
+                    return self.erased(table, s.place(word), s.above / Header::ROW);
                 }
                 self.answered(Answer::NoSuchWord, passed + 1)
             }
@@ -157,14 +157,14 @@ impl Header {
         let bits = bits_of(s.mask);
         let rows = self.width - bits + 1;
         let ends = if let End::Row(row) = end {
-            s.row == last
+            s.at / Header::ROW == last
         } else {
             false
         };
         Move {
             needed: true,
             astray: !ends,
-            hook: hook_of(s.place(key), bits, self.width, s.above),
+            hook: hook_of(s.place(key), bits, self.width, s.above / Header::ROW),
             rows,
         }
     }
@@ -186,7 +186,7 @@ fn no_link(needed: bool, astray: bool) -> Move
     }
 }
 
-// "keys up, unlink, move, set the link"; "Row count−1 is then three zeros."
+// "keys up, unlink, move, set the link"; "cleared rows hold four zeros"
 fn shrink(table: &mut [u32], last: usize, hole: Hole, m: Move)
     requires last { ⌜ last < capacity (now table) ⌝ }
     requires hole { ⌜ Within (now table) hole ⌝ }
@@ -203,7 +203,7 @@ fn shrink(table: &mut [u32], last: usize, hole: Hole, m: Move)
     );
     fill(table, hole.row, last, m);
     let zeros = Row {
-        entry: Entry { key: 0 },
+        entry: Entry { key: 0, serial: 0 },
         left: Header::NONE,
         right: Header::NONE,
     };

@@ -69,7 +69,7 @@ impl Header {
             End::None => self.answered(Answer::NoSuchWord, passed),
             End::Row(row) => {
                 if row.entry.key == word {
-                    self.answered(Answer::Done, passed + 1)
+                    self.answered(Answer::Serial(row.entry.serial), passed + 1)
                 } else {
                     self.answered(Answer::NoSuchWord, passed + 1)
                 }

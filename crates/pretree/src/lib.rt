@@ -23,11 +23,11 @@ pub struct Header {
 }
 
 impl Header {
-    // "A row is three table words: key, left link, right link."
-    pub const ROW: usize = 3;
+    // "A row is then four words": key, left link, right link and, document 02 §1, the serial.
+    pub const ROW: usize = 4;
     // "A link of 0 means none."
     pub const NONE: u32 = 0;
-    // "Capacity is the table's length divided by 3, rounded down, and at most 65,535."
+    // "capacity the length divided by 4, at most 65,535"
     pub const MOST: usize = 65535;
 
     // The header of an empty set of words of `width` bits.
@@ -38,9 +38,12 @@ impl Header {
     }
 }
 
-// The kind of answer with its key. `numberOf` and `keyOf`, in specs/Answer.antt, give document 01's number and key for each.
+// The kind of answer with its key or serial. `numberOf`, `keyOf` and `serialOf`, in specs/Answer.antt, give the documents' number, key and serial
+// for each.
 pub enum Answer {
     Done,
+    // `has` found its word, which has this serial.
+    Serial(u32),
     Word(u32),
     Distance(u32),
     WrongWidth,
@@ -61,10 +64,10 @@ pub struct Reply {
     pub moved: u32,
 }
 
-// A call, with its number where it takes one. `after`, in specs/Call.antt, says what each answers and leaves.
+// A call, with its numbers: `Add` has the word and its serial. `after`, in specs/Call.antt, says what each answers and leaves.
 pub enum Call {
     New(u32),
-    Add(u32),
+    Add(u32, u32),
     Del(u32),
     Has(u32),
     Next(u32),
@@ -79,6 +82,7 @@ pub enum Call {
 // What a push or an erase moves from row to row.
 pub struct Entry {
     pub key: u32,
+    pub serial: u32,
 }
 
 // A row of the table.

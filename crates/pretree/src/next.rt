@@ -81,9 +81,9 @@ impl Seek {
         requires span { ⌜ self .span < 2 ^ 31 ⌝ }
         ensures { λ r. ⌜ r ≡ nextPlace self word ⌝ }
     {
-        if self.row != 0 {
+        if self.at / Header::ROW != 0 {
             return Place {
-                row: self.row,
+                row: self.at / Header::ROW,
                 mask: self.mask,
                 path: word - self.tail,
                 low: word as u64 + 1,

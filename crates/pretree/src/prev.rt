@@ -55,7 +55,7 @@ impl Header {
         if passed == 0 {
             return self.answered(Answer::NoSuchWord, rows);
         }
-        let last = row_at(table, s.above);
+        let last = row_at(table, s.above / Header::ROW);
         if left_if_right(word, bits, last) == Header::NONE {
             return self.answered(Answer::Word(last.entry.key), rows);
         }

@@ -15,11 +15,10 @@ ghost use Prim.Native.Nat.{suc, _+_, _*_, _≤_, _<_};
 ghost use Rattle.pretree.specs.Table.{rowWords, capacity, rowAt};
 ghost use Rattle.pretree.specs.Unfold.{shown};
 ghost use Rattle.pretree.specs.Reply.{wrong-header, too-wide};
-ghost use Rattle.pretree.specs.Seek.{begun, passes, turn, stepped, passed, goesOn, gone, endOf, endAt, placeOf, Sought};
+ghost use Rattle.pretree.specs.Seek.{rowOf, rowsBefore, begun, passes, turn, stepped, passed, goesOn, gone, endOf, endAt, placeOf, Sought};
 
 pub struct Seek {
-    // the row that it wants, and the table word at which that row begins
-    pub row: usize,
+    // the table word at which the row that it wants begins. The number of the row itself is not carried: that would cost instructions at each row.
     pub at: usize,
     // as many ones as bits are left there
     pub mask: u32,
@@ -27,7 +26,7 @@ pub struct Seek {
     pub tail: u32,
     // the words between the key above and the word; at the root all that are less than the word
     pub between: u32,
-    // the last row that it passed
+    // the table word at which the last row that it passed begins
     pub above: usize,
     // the deepest right link that it left aside on a turn to the left, 0 if there is none, and as many ones as bits are left below it
     pub aside: usize,
@@ -52,7 +51,6 @@ impl Seek {
         ensures { λ r. ⌜ r ≡ begun width word ⌝ }
     {
         Seek {
-            row: 0,
             at: 0,
             mask: mask_of(width),
             tail: word,
@@ -89,12 +87,11 @@ impl Seek {
         let half = self.mask / 2;
         let skipped = if half < self.tail { 0 } else { right };
         let mut s = Seek {
-            row: link as usize,
             at: Header::ROW * (link as usize),
             mask: half,
             tail: self.tail & half,
             between: self.between,
-            above: self.row,
+            above: self.at,
             aside: self.aside,
             span: self.span,
         };
@@ -122,7 +119,7 @@ impl Seek {
         ensures { λ r. ⌜ r ≡ placeOf self word ⌝ }
     {
         Place {
-            row: self.row,
+            row: self.at / Header::ROW,
             mask: self.mask,
             path: word - self.tail,
             low: (word - self.between) as u64,
@@ -136,7 +133,7 @@ impl Seek {
     {
         let key = row.entry.key;
         if key < word {
-            if self.row != 0 {
+            if self.at / Header::ROW != 0 {
                 return End::Damage;
             }
             if self.between == word {
@@ -164,13 +161,15 @@ impl Seek {
 }
 
 // The row that the seek wants is in use, and the way passes it.
-fn goes_on(table: &[u32], count: usize, word: u32, s: Seek) -> bool
-    requires room { ⌜ count ≤ capacity (now table) ⌝ }
+// `past` lies three words before the end of the rows in use: a row in use begins before it, and no other row does.
+fn goes_on(table: &[u32], past: usize, word: u32, s: Seek) -> bool
+    requires room { ⌜ rowsBefore past ≤ capacity (now table) ⌝ }
+    requires past { ⌜ past + 3 ≡ rowWords * rowsBefore past ⌝ }
     requires between { ⌜ s .between ≤ word ⌝ }
-    requires at { ⌜ s .at ≡ rowWords * s .row ⌝ }
-    ensures { λ r. ⌜ r ≡ goesOn (rowAt (now (table .entry))) count word s ⌝ }
+    requires at { ⌜ s .at ≡ rowWords * rowOf s ⌝ }
+    ensures { λ r. ⌜ r ≡ goesOn (rowAt (now (table .entry))) (rowsBefore past) word s ⌝ }
 {
-    if count <= s.row {
+    if past <= s.at {
         return false;
     }
     let at = s.at;
@@ -180,9 +179,9 @@ fn goes_on(table: &[u32], count: usize, word: u32, s: Seek) -> bool
 
 // The seek past that row.
 fn gone(table: &[u32], word: u32, s: Seek) -> Seek
-    requires used { ⌜ s .row < capacity (now table) ⌝ }
-    requires at { ⌜ s .at ≡ rowWords * s .row ⌝ }
-    requires less { ⌜ rowAt (now table) (s .row) .entry .key < word ⌝ }
+    requires used { ⌜ rowOf s < capacity (now table) ⌝ }
+    requires at { ⌜ s .at ≡ rowWords * rowOf s ⌝ }
+    requires less { ⌜ rowAt (now table) (rowOf s) .entry .key < word ⌝ }
     ensures { λ r. ⌜ r ≡ gone (rowAt (now (table .entry))) word s ⌝ }
 {
     let at = s.at;
@@ -200,8 +199,8 @@ pub(crate) fn sought(table: &[u32], h: Header, word: u32) -> Seek
     ensures { λ r. ⌜ Sought (rowAt (now (table .entry))) h (shown h (now (table .entry))) word r ⌝ }
 {
     let mut s = Seek::start(h.width, word);
-    let count = h.count as usize;
-    while goes_on(table, count, word, s) {
+    let past = Header::ROW * (h.count as usize) - 3;
+    while goes_on(table, past, word, s) {
         s = gone(table, word, s);
     }
     s
@@ -213,7 +212,7 @@ pub(crate) fn seek_end(table: &[u32], count: usize, word: u32, s: Seek) -> End
     requires tail { ⌜ s .tail ≤ s .mask ⌝ }
     ensures { λ r. ⌜ r ≡ endAt (rowAt (now (table .entry))) count word s ⌝ }
 {
-    let i = s.row;
+    let i = s.at / Header::ROW;
     if count <= i {
         return End::Damage;
     }

@@ -11,20 +11,23 @@ ghost use Rattle.pretree.specs.Table.{capacity, rowAt};
 ghost use Rattle.pretree.specs.Reply.{wrong-header, too-wide};
 ghost use Rattle.pretree.specs.Found.{refuses, refusal};
 
-// "Row i begins at table word 3i."
+// "Row i begins at table word" 4i.
 pub(crate) fn row_at(table: &[u32], i: usize) -> Row
     requires { ⌜ i < capacity (now table) ⌝ }
     ensures { λ r. ⌜ r ≡ rowAt (now (table .entry)) i ⌝ }
 {
     let at = Header::ROW * i;
     Row {
-        entry: Entry { key: table[at] },
+        entry: Entry {
+            key: table[at],
+            serial: table[at + 3],
+        },
         left: table[at + 1],
         right: table[at + 2],
     }
 }
 
-// "Capacity is the table's length divided by 3, rounded down, and at most 65,535."
+// "capacity the length divided by 4, at most 65,535"
 pub(crate) fn capacity(table: &[u32]) -> u32
     ensures { λ r. ⌜ r ≡ capacity (now (table .entry)) ⌝ }
 {

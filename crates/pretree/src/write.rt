@@ -1,4 +1,4 @@
-// The writes to a lent table: an entry, a link or a whole row. "Row i begins at table word 3i."
+// The writes to a lent table: an entry, a serial, a link or a whole row.
 
 use crate::Entry;
 use crate::Header;
@@ -8,7 +8,7 @@ ghost use mathlib.Core.Path.{_≡_};
 ghost use mathlib.Core.Bool.{true};
 ghost use Prim.Native.Nat.{_/_, _%_, _^_, _<_, _≤_};
 ghost use Rattle.ordered.specs.Word.{sideOf};
-ghost use Rattle.pretree.specs.Table.{capacity, fromCode, withEntry, withLink, withRow, hooked};
+ghost use Rattle.pretree.specs.Table.{capacity, fromCode, withEntry, withSerial, withLink, withRow, hooked};
 
 // The side of the row above to which a place is linked, with so many bits left: 0 is left, 1 is right.
 pub(crate) fn side_of(at: Place, bits: u32) -> u32
@@ -25,6 +25,16 @@ pub(crate) fn put_entry(table: &mut [u32], i: usize, entry: Entry)
 {
     let at = Header::ROW * i;
     table[at] = entry.key;
+    table[at + 3] = entry.serial;
+}
+
+// Row i keeps its key and takes another serial.
+pub(crate) fn put_serial(table: &mut [u32], i: usize, serial: u32)
+    requires { ⌜ i < capacity (now table) ⌝ }
+    ensures { λ _. ⌜ now (table .exit) ≡ withSerial i serial (now (table .entry)) ⌝ }
+{
+    let at = Header::ROW * i + 3;
+    table[at] = serial;
 }
 
 // The link of row i on one side: 0 is left, 1 is right.
@@ -55,4 +65,5 @@ pub(crate) fn put_row(table: &mut [u32], i: usize, row: Row)
     table[at] = row.entry.key;
     table[at + 1] = row.left;
     table[at + 2] = row.right;
+    table[at + 3] = row.entry.serial;
 }

@@ -16,7 +16,7 @@ ghost use Prim.Native.Nat.{_≤_};
 ghost use Rattle.raw.specs.Fits.{Fits};
 
 // One row more than the largest capacity.
-type Table = [u32; 196608];
+type Table = [u32; 262144];
 
 // One word more than the largest capacity.
 type Buffer = [u32; 65536];
@@ -39,8 +39,8 @@ pub struct State {
 
 // A proved loop must end, but the input may not. So the loop counts its turns down, from a number that no run uses up.
 fn main() {
-    let mut table = [0u32; 196608];
-    let mut copy = [0u32; 196608];
+    let mut table = [0u32; 262144];
+    let mut copy = [0u32; 262144];
     let mut buffer = [0u32; 65536];
     let mut line = [0u8; 257];
     let mut input = io::large_buffer();
@@ -64,13 +64,14 @@ fn main() {
     }
 }
 
-// The same start as the line program's: "Table of 4,096 rows, all zeros, and a `list` buffer of 4,096 words. Header at the start: W 0, count 0."
+// It starts as the line program does: "Table of 4,096 rows, all zeros, and a `list` buffer of 4,096 words. Header at the start: W 0, count 0."
+// Document 02 §1: "A row is then four words".
 fn start() -> State
     ensures { λ r. ⌜ Fits r ⌝ }
 {
     State {
         header: Header::fresh(0),
-        size: 12288,
+        size: 16384,
         room: 4096,
         keep: true,
         lines: 0,

@@ -30,13 +30,16 @@ pub(crate) fn reply(line: u64, reply: Reply) {
 }
 
 // "line number from 1, answer number, key or `-`, rows read, moving count, parted by tabs"
+// Document 02 §1: "every reply line ends with one more field: the serial for a `has` that found its word, `-` elsewhere"
 fn reply_line(line: u64, fields: ReplyFields) {
     let key = fields.key;
+    let serial = fields.serial;
     io::print_decimal(STDOUT_FILENO, line);
     field(fields.answer);
-    key_field(key);
+    field_or_dash(key);
     field(fields.rows);
     field(fields.moved);
+    field_or_dash(serial);
     line_end();
 }
 
@@ -79,9 +82,9 @@ fn word_line(name: &[u8], place: usize, word: u32) {
     line_end();
 }
 
-fn key_field(key: Number) {
-    match key {
-        Number::Of(k) => field(k),
+fn field_or_dash(number: Number) {
+    match number {
+        Number::Of(n) => field(n),
         Number::Nothing => {
             io::write_all(STDOUT_FILENO, b"\t-");
         }

@@ -82,7 +82,7 @@ fn set_table(mut state: State, values: &[u32], table: &mut Table) -> State
         return unread(state);
     }
     let n = wide(values[0]);
-    if 196608 < n {
+    if 262144 < n {
         return unread(state);
     }
     clear_words(table, n);

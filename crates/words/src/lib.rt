@@ -1,6 +1,6 @@
-// The calls of `pretree` for a program in C, such as tests/speed. Arguments are plain numbers and a table of 32-bit words; the reply is six
-// numbers. Each function makes its call and does nothing else. A caller may give any numbers: a refusal is an answer.
-// For C a slice is two arguments, a pointer and then a number of words. `reply` is a pointer to six words.
+// The calls of `pretree` for a program in C, as tests/speed calls them: plain numbers and a table of 32-bit words go in, and the reply comes
+// back as seven numbers. Each function is its call and adds nothing, so a caller may give any numbers: a refusal is an answer.
+// A slice is a pointer and a number of words, in C's order of arguments; `reply` is a pointer to seven words.
 
 use pretree::Answer;
 use pretree::Header;
@@ -10,42 +10,44 @@ ghost use Rattle.pretree.specs.Find.{hasReply, nextReply, prevReply, firstReply
 ghost use Rattle.pretree.specs.Add.{entryFor, addOutcome};
 ghost use Rattle.pretree.specs.Del.{delOutcome};
 ghost use Rattle.pretree.specs.Whole.{newReply, newTable, auditReply, listReply, listBuffer};
-ghost use Rattle.words.specs.Packed.{headerOf, sixOf, packed};
+ghost use Rattle.words.specs.Packed.{headerOf, sevenOf, packed};
 
-fn six_of(reply: Reply, number: u32, key: u32) -> [u32; 6]
-    ensures { λ r. ⌜ r ≡ sixOf reply number key ⌝ }
+fn seven_of(reply: Reply, number: u32, key: u32, serial: u32) -> [u32; 7]
+    ensures { λ r. ⌜ r ≡ sevenOf reply number key serial ⌝ }
 {
     [
         number,
         key,
         reply.rows,
         reply.moved,
+        serial,
         reply.header.width,
         reply.header.count,
     ]
 }
 
-fn packed(reply: Reply) -> [u32; 6]
+fn packed(reply: Reply) -> [u32; 7]
     ensures { λ r. ⌜ r ≡ packed reply ⌝ }
 {
     let answer = reply.answer;
     match answer {
-        Answer::Done => six_of(reply, 0, 0),
-        Answer::Word(k) => six_of(reply, 0, k),
-        Answer::Distance(d) => six_of(reply, 0, d),
-        Answer::WrongWidth => six_of(reply, 1, 0),
-        Answer::WrongHeader => six_of(reply, 2, 0),
-        Answer::WordTooWide => six_of(reply, 3, 0),
-        Answer::Damage => six_of(reply, 4, 0),
-        Answer::Full => six_of(reply, 5, 0),
-        Answer::ShortBuffer => six_of(reply, 6, 0),
-        Answer::AlreadyThere => six_of(reply, 7, 0),
-        Answer::NoSuchWord => six_of(reply, 8, 0),
+        Answer::Done => seven_of(reply, 0, 0, 0),
+        Answer::Serial(s) => seven_of(reply, 0, 0, s),
+        Answer::Word(k) => seven_of(reply, 0, k, 0),
+        Answer::Distance(d) => seven_of(reply, 0, d, 0),
+        Answer::WrongWidth => seven_of(reply, 1, 0, 0),
+        Answer::WrongHeader => seven_of(reply, 2, 0, 0),
+        Answer::WordTooWide => seven_of(reply, 3, 0, 0),
+        Answer::Damage => seven_of(reply, 4, 0, 0),
+        Answer::Full => seven_of(reply, 5, 0, 0),
+        Answer::ShortBuffer => seven_of(reply, 6, 0, 0),
+        Answer::AlreadyThere => seven_of(reply, 7, 0, 0),
+        Answer::NoSuchWord => seven_of(reply, 8, 0, 0),
     }
 }
 
 #[no_mangle]
-pub extern "C" fn words_has(width: u32, count: u32, table: &[u32], word: u32, reply: &mut [u32; 6])
+pub extern "C" fn words_has(width: u32, count: u32, table: &[u32], word: u32, reply: &mut [u32; 7])
     ensures reply { λ _. ⌜ now (reply .exit) ≡ packed (hasReply (headerOf width count) (now (table .entry)) word) ⌝ }
 {
     let header = Header { width, count };
@@ -53,7 +55,7 @@ pub extern "C" fn words_has(width: u32, count: u32, table: &[u32], word: u32, re
 }
 
 #[no_mangle]
-pub extern "C" fn words_next(width: u32, count: u32, table: &[u32], word: u32, reply: &mut [u32; 6])
+pub extern "C" fn words_next(width: u32, count: u32, table: &[u32], word: u32, reply: &mut [u32; 7])
     ensures reply { λ _. ⌜ now (reply .exit) ≡ packed (nextReply (headerOf width count) (now (table .entry)) word) ⌝ }
 {
     let header = Header { width, count };
@@ -61,7 +63,7 @@ pub extern "C" fn words_next(width: u32, count: u32, table: &[u32], word: u32, r
 }
 
 #[no_mangle]
-pub extern "C" fn words_prev(width: u32, count: u32, table: &[u32], word: u32, reply: &mut [u32; 6])
+pub extern "C" fn words_prev(width: u32, count: u32, table: &[u32], word: u32, reply: &mut [u32; 7])
     ensures reply { λ _. ⌜ now (reply .exit) ≡ packed (prevReply (headerOf width count) (now (table .entry)) word) ⌝ }
 {
     let header = Header { width, count };
@@ -69,7 +71,7 @@ pub extern "C" fn words_prev(width: u32, count: u32, table: &[u32], word: u32, r
 }
 
 #[no_mangle]
-pub extern "C" fn words_gap(width: u32, count: u32, table: &[u32], word: u32, reply: &mut [u32; 6])
+pub extern "C" fn words_gap(width: u32, count: u32, table: &[u32], word: u32, reply: &mut [u32; 7])
     ensures reply { λ _. ⌜ now (reply .exit) ≡ packed (gapReply (headerOf width count) (now (table .entry)) word) ⌝ }
 {
     let header = Header { width, count };
@@ -77,7 +79,7 @@ pub extern "C" fn words_gap(width: u32, count: u32, table: &[u32], word: u32, re
 }
 
 #[no_mangle]
-pub extern "C" fn words_first(width: u32, count: u32, table: &[u32], reply: &mut [u32; 6])
+pub extern "C" fn words_first(width: u32, count: u32, table: &[u32], reply: &mut [u32; 7])
     ensures reply { λ _. ⌜ now (reply .exit) ≡ packed (firstReply (headerOf width count) (now (table .entry))) ⌝ }
 {
     let header = Header { width, count };
@@ -85,7 +87,7 @@ pub extern "C" fn words_first(width: u32, count: u32, table: &[u32], reply: &mut
 }
 
 #[no_mangle]
-pub extern "C" fn words_last(width: u32, count: u32, table: &[u32], reply: &mut [u32; 6])
+pub extern "C" fn words_last(width: u32, count: u32, table: &[u32], reply: &mut [u32; 7])
     ensures reply { λ _. ⌜ now (reply .exit) ≡ packed (lastReply (headerOf width count) (now (table .entry))) ⌝ }
 {
     let header = Header { width, count };
@@ -93,7 +95,7 @@ pub extern "C" fn words_last(width: u32, count: u32, table: &[u32], reply: &mut 
 }
 
 #[no_mangle]
-pub extern "C" fn words_audit(width: u32, count: u32, table: &[u32], reply: &mut [u32; 6])
+pub extern "C" fn words_audit(width: u32, count: u32, table: &[u32], reply: &mut [u32; 7])
     ensures reply { λ _. ⌜ now (reply .exit) ≡ packed (auditReply (headerOf width count) (now (table .entry))) ⌝ }
 {
     let header = Header { width, count };
@@ -106,13 +108,14 @@ pub extern "C" fn words_add(
     count: u32,
     table: &mut [u32],
     word: u32,
-    reply: &mut [u32; 6],
+    serial: u32,
+    reply: &mut [u32; 7],
 )
-    ensures reply { λ _. ⌜ now (reply .exit) ≡ packed (addOutcome (headerOf width count) (now (table .entry)) (entryFor word) .reply) ⌝ }
-    ensures table { λ _. ⌜ now (table .exit) ≡ addOutcome (headerOf width count) (now (table .entry)) (entryFor word) .table ⌝ }
+    ensures reply { λ _. ⌜ now (reply .exit) ≡ packed (addOutcome (headerOf width count) (now (table .entry)) (record { key = word; serial = serial }) .reply) ⌝ }
+    ensures table { λ _. ⌜ now (table .exit) ≡ addOutcome (headerOf width count) (now (table .entry)) (record { key = word; serial = serial }) .table ⌝ }
 {
     let header = Header { width, count };
-    *reply = packed(header.add(table, word));
+    *reply = packed(header.add(table, word, serial));
 }
 
 #[no_mangle]
@@ -121,7 +124,7 @@ pub extern "C" fn words_del(
     count: u32,
     table: &mut [u32],
     word: u32,
-    reply: &mut [u32; 6],
+    reply: &mut [u32; 7],
 )
     ensures reply { λ _. ⌜ now (reply .exit) ≡ packed (delOutcome (headerOf width count) (now (table .entry)) word .reply) ⌝ }
     ensures table { λ _. ⌜ now (table .exit) ≡ delOutcome (headerOf width count) (now (table .entry)) word .table ⌝ }
@@ -136,7 +139,7 @@ pub extern "C" fn words_new(
     count: u32,
     table: &mut [u32],
     bits: u32,
-    reply: &mut [u32; 6],
+    reply: &mut [u32; 7],
 )
     ensures reply { λ _. ⌜ now (reply .exit) ≡ packed (newReply (headerOf width count) bits) ⌝ }
     ensures table { λ _. ⌜ now (table .exit) ≡ newTable (now (table .entry)) bits ⌝ }
@@ -151,7 +154,7 @@ pub extern "C" fn words_list(
     count: u32,
     table: &[u32],
     buffer: &mut [u32],
-    reply: &mut [u32; 6],
+    reply: &mut [u32; 7],
 )
     ensures reply { λ _. ⌜ now (reply .exit) ≡ packed (listReply (headerOf width count) (now (table .entry)) (now (buffer .entry))) ⌝ }
     ensures buffer { λ _. ⌜ now (buffer .exit) ≡ listBuffer (headerOf width count) (now (table .entry)) (now (buffer .entry)) ⌝ }

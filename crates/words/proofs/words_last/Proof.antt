@@ -1,4 +1,4 @@
--- The six numbers are those of the call's reply.
+-- The seven numbers are those of the call's reply.
 use mathlib.Core.Path.{ap, _∙_}
 use Rattle.words.specs.Packed.{packed}
 use Rattle.words.proofs.words_last.Statement.{statement}

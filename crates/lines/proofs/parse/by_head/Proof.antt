@@ -1,9 +1,9 @@
 -- At each head that the code knows, the other forms do not fit; at any other head no form does.
 use borrow.Author.Tests.{ne-eqb}
 use Rattle.pretree.specs.declared.Call.{Call}
-use Rattle.pretree.specs.declared.Call.the-variants.{First, Last, Audit}
+use Rattle.pretree.specs.declared.Call.the-variants.{Add, First, Last, Audit}
 use Rattle.lines.specs.declared.parse.Word.the-variants as W
-use Rattle.lines.specs.Line.{afterWord, if-nothing}
+use Rattle.lines.specs.Line.{afterWord, readTwo, if-nothing}
 use Rattle.lines.specs.Head.{byHead, numbered, numberedAfter, aloneAfter}
 use Rattle.lines.proofs.Heads.{only}
 use Rattle.lines.proofs.parse.by_head.Statement.{statement}
@@ -14,20 +14,20 @@ unfolding byHead afterWord numbered
 returns c = rw (c .before .match .keys1) (only (numbered W.New (c .before .before .before .args .rest .now)) (c .numbered .ensures))
 
 returns-2 : tie.Need-returns-2
-unfolding byHead afterWord numbered
-returns-2 c = rw (c .before .match .keys2) (only (numbered W.Add (c .before .before .before .args .rest .now)) (c .numbered2 .ensures))
+unfolding byHead afterWord
+returns-2 c = rw (c .before .match .keys2) (only (readTwo Add (c .before .before .before .args .rest .now)) (c .add .ensures))
 
 returns-3 : tie.Need-returns-3
 unfolding byHead afterWord numbered
-returns-3 c = rw (c .before .match .keys3) (only (numbered W.Del (c .before .before .before .args .rest .now)) (c .numbered3 .ensures))
+returns-3 c = rw (c .before .match .keys3) (only (numbered W.Del (c .before .before .before .args .rest .now)) (c .numbered2 .ensures))
 
 returns-4 : tie.Need-returns-4
 unfolding byHead afterWord numbered
-returns-4 c = rw (c .before .match .keys4) (only (numbered W.Has (c .before .before .before .args .rest .now)) (c .numbered4 .ensures))
+returns-4 c = rw (c .before .match .keys4) (only (numbered W.Has (c .before .before .before .args .rest .now)) (c .numbered3 .ensures))
 
 returns-5 : tie.Need-returns-5
 unfolding byHead afterWord numbered
-returns-5 c = rw (c .before .match .keys5) (only (numbered W.Gap (c .before .before .before .args .rest .now)) (c .numbered5 .ensures))
+returns-5 c = rw (c .before .match .keys5) (only (numbered W.Gap (c .before .before .before .args .rest .now)) (c .numbered4 .ensures))
 
 returns-6 : tie.Need-returns-6
 unfolding byHead afterWord numbered numberedAfter

@@ -9,13 +9,13 @@ use Rattle.lines.proofs.session.step.Tie as tie
 part-hold-end : tie.Need-part-hold-end
 part-hold-end c =
     let a = c .before .before .before .before .before .before .before .args in
-    end-within (a .piece .now) (a .from) (c .before .line-end .result) (c .before .line-end .ensures) (c .before .before .before .before .before .before .before .pre .1 .1 .1)
+    end-within (a .piece .now) (a .from) (c .before .place-of .result) (c .before .place-of .ensures) (c .before .before .before .before .before .before .before .pre .1 .1 .1)
 
 returns : tie.Need-returns
 returns c =
     let a = c .before .before .before .before .before .before .before .before .before .before .before .before .args in
     let pre = c .before .before .before .before .before .before .before .before .before .before .before .before .pre in
-    let e = c .before .before .before .before .before .before .line-end in
+    let e = c .before .before .before .before .before .before .place-of in
     let h = c .before .before .before .hold in (
       steps-part (a .piece .now) (a .from) (e .result) (e .ensures) (pre .1 .1 .1) (a .session) (pre .1 .1 .0 .0) (pre .1 .1 .0 .1) (h .ensures) (a .table .now) (a .words .now) (a .out .now) (a .at) (c .if1 .taken),
       part-advances (a .piece .now) (a .from) (e .result) (e .ensures) (pre .1 .1 .1) (a .session) (pre .1 .1 .0 .0) (pre .1 .1 .0 .1) (h .ensures) (a .table .now) (a .words .now) (a .out .now) (a .at) (c .if1 .taken) (omega (arith, pre .1 .0)),
@@ -25,7 +25,7 @@ slice-reshare-prefix-answer : tie.Need-slice-reshare-prefix-answer
 slice-reshare-prefix-answer c =
     let a = c .before .before .before .before .before .before .before .before .before .before .before .before .args in
     let pre = c .before .before .before .before .before .before .before .before .before .before .before .before .pre in
-    let e = c .before .before .before .before .before .before .line-end in
+    let e = c .before .before .before .before .before .before .place-of in
     let h = c .before .before .before .hold in
     omega (arith, held-within (a .piece .now) (a .from) (e .result) (e .ensures) (pre .1 .1 .1) (a .session) (pre .1 .1 .0 .0) (pre .1 .1 .0 .1) (h .ensures), h .kept .0, pre .1 .1 .0 .0)
 
@@ -36,7 +36,7 @@ returns-2 : tie.Need-returns-2
 returns-2 c =
     let a = c .before .before .before .before .before .before .before .before .before .before .before .before .before .before .before .before .before .before .before .before .before .before .before .before .args in
     let pre = c .before .before .before .before .before .before .before .before .before .before .before .before .before .before .before .before .before .before .before .before .before .before .before .before .pre in
-    let e = c .before .before .before .before .before .before .before .before .before .before .before .before .before .before .before .before .before .before .line-end in
+    let e = c .before .before .before .before .before .before .before .before .before .before .before .before .before .before .before .before .before .before .place-of in
     let h = c .before .before .before .before .before .before .before .before .before .before .before .before .before .before .before .hold in
     let r = c .before .before .before .before .before .before .before .answer .ensures in
     let more = c .before .before .before .before .before .before .before .before .before .before .before .before .if1 .left in
@@ -50,8 +50,8 @@ step-spec =
     tie.close
     (tie.spec
     (λ c κs. omega (arith, c .before .before .before .before .before .pre .1 .1 .1))
-    (λ c. omega (arith, c .before .line-end .ensures))
-    (λ c. omega (arith, c .before .line-end .ensures))
+    (λ c. omega (arith, c .before .place-of .ensures))
+    (λ c. omega (arith, c .before .place-of .ensures))
     part-hold-end
     (λ c κs. omega (arith, c .before .before .before .before .before .before .before .before .pre .1 .1 .0))
     (λ c. c .before .before .before .hold .kept .0)
@@ -60,7 +60,7 @@ step-spec =
     slice-aggregate-answer
     (λ c κs. (c .before .before .before .before .before .before .before .before .before .before .before .before .before .before .before .before .pre .0, c .before .before .before .before .before .before .before .before .before .before .before .before .before .before .before .before .pre .1 .0))
     (λ c. omega (arith, c .before .before .before .before .before .before .before .before .before .before .before .before .before .before .before .before .before .before .before .before .before .before .before .pre .0))
-    (λ c. omega (arith, end-within (c .before .before .before .before .before .before .before .before .before .before .before .before .before .before .before .before .before .before .before .before .before .before .before .args .piece .now) (c .before .before .before .before .before .before .before .before .before .before .before .before .before .before .before .before .before .before .before .before .before .before .before .args .from) (c .before .before .before .before .before .before .before .before .before .before .before .before .before .before .before .before .before .line-end .result) (c .before .before .before .before .before .before .before .before .before .before .before .before .before .before .before .before .before .line-end .ensures) (c .before .before .before .before .before .before .before .before .before .before .before .before .before .before .before .before .before .before .before .before .before .before .before .pre .1 .1 .1), c .before .before .before .before .before .before .before .before .before .before .before .before .before .before .before .before .before .before .before .before .before .before .before .good))
+    (λ c. omega (arith, end-within (c .before .before .before .before .before .before .before .before .before .before .before .before .before .before .before .before .before .before .before .before .before .before .before .args .piece .now) (c .before .before .before .before .before .before .before .before .before .before .before .before .before .before .before .before .before .before .before .before .before .before .before .args .from) (c .before .before .before .before .before .before .before .before .before .before .before .before .before .before .before .before .before .place-of .result) (c .before .before .before .before .before .before .before .before .before .before .before .before .before .before .before .before .before .place-of .ensures) (c .before .before .before .before .before .before .before .before .before .before .before .before .before .before .before .before .before .before .before .before .before .before .before .pre .1 .1 .1), c .before .before .before .before .before .before .before .before .before .before .before .before .before .before .before .before .before .before .before .before .before .before .before .good))
     (λ c κs. tt)
     (λ c. c .before .before .before .before .before .before .before .answer .kept .1 .1 .1 .0)
     (λ c. c .before .before .before .before .before .before .before .answer .kept .1 .1 .1 .1 .0)

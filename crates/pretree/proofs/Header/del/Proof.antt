@@ -3,6 +3,7 @@ use Prim.Native.Nat.{_<_}
 use mathlib.Core.Path.{_≡_, refl, sym, ap, _∙_}
 use mathlib.Core.Bool.{false}
 use native.Mathlib.Nat.{pos-of-ne-zero}
+use Rattle.pretree.specs.Seek.{rowOf}
 use Rattle.pretree.specs.Table.{rowAt}
 use Rattle.pretree.specs.Reply.{wrong-header, too-wide}
 use Rattle.pretree.specs.Del.{delOutcome}
@@ -58,7 +59,7 @@ row-of c = c .before .before
 key-is : (c : tie.Then3)
     → let end = end-of (row-of (c .before) .before) in
     let a = start-of (seek-of end) .args in
-    rowAt (a .table .now) (seek-of end .sought .result .row) .entry .key ≡ a .word
+    rowAt (a .table .now) (rowOf (seek-of end .sought .result)) .entry .key ≡ a .word
 key-is c = let row = row-of (c .before) in key-there (way-of (end-of (row .before))) (row .end .given .1) (c .if3 .taken)
 
 refuses-requires : tie.Need-refuses-requires
@@ -144,17 +145,18 @@ place-requires c κs =
 
 erased-requires : tie.Need-erased-requires
 erased-requires c κs =
-    let found = c .before .before in
+    let place = c .before in
+    let found = place .before .before in
     let row = row-of (found .before) in
     let done = way-of (end-of (row .before)) in
-    rw (c .place .ensures, key-is found) (done .fine, (done .small, row-of-key done (row .end .given .1) (found .if3 .taken)))
+    rw (place .place .ensures, key-is found) (done .fine, (done .small, row-of-key done (row .end .given .1) (found .if3 .taken)))
 
 same-length-3 : tie.Need-same-length-3
 same-length-3 c = search needs
 
 returns-3 : tie.Need-returns-3
 returns-3 c =
-    let place = c .before .before .before in
+    let place = c .before .before .before .before in
     rw (place .place .ensures, key-is (place .before .before)) at (c .before .before .erased .ensures)
 
 add-answered : tie.Need-add-answered

@@ -88,7 +88,10 @@ add-answered c =
     omega (arith, right-header (s .args .self) (s .args .table .now) (s .pre .0) .has-room)
 
 sub-answered : tie.Need-sub-answered
-sub-answered c = search needs
+sub-answered c =
+    let pushed = c .before .before .before .before .before .before .before .before .before .before .before .before .before .before .before in
+    let g = growable (pushed .before .before) in
+    omega (arith, g .fits, g .within)
 
 answered-requires : tie.Need-answered-requires
 answered-requires c κs = search needs

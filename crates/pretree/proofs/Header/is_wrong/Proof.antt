@@ -7,24 +7,24 @@ use lib.Dec.{ltb}
 use lib.ListN.{length}
 use borrow.Author.Needs.{needs}
 use borrow.Author.Tests.{eq-eqb, ne-eqb, lt-ltb, le-ltb, ltb-true, ltb-false}
-use Rattle.pretree.specs.Table.{capacity}
+use Rattle.pretree.specs.Table.{rowWords, capacity}
 use Rattle.pretree.specs.Reply.{wrong-header}
 use Rattle.pretree.proofs.Header.is_wrong.Statement.{statement}
 use Rattle.pretree.proofs.Header.is_wrong.Tie as tie
 
 -- the rows fit if their words do
-by-words : (n count : ℕ) → count ≤ 65535 → ltb n (3 * count) ≡ ltb (min (n / 3) 65535) count
-by-words n count few = go (ltb n (3 * count)) refl
+by-words : (n count : ℕ) → count ≤ 65535 → ltb n (rowWords * count) ≡ ltb (min (n / rowWords) 65535) count
+by-words n count few = go (ltb n (rowWords * count)) refl
   where
-    go : (b : Bool) → ltb n (3 * count) ≡ b → b ≡ ltb (min (n / 3) 65535) count
+    go : (b : Bool) → ltb n (rowWords * count) ≡ b → b ≡ ltb (min (n / rowWords) 65535) count
     go true e =
-        let short : n < 3 * count = ltb-true n (3 * count) e in
-        let less : min (n / 3) 65535 < count = omega arith in
-        rw (lt-ltb (min (n / 3) 65535) count less)
+        let short : n < rowWords * count = ltb-true n (rowWords * count) e in
+        let less : min (n / rowWords) 65535 < count = omega arith in
+        rw (lt-ltb (min (n / rowWords) 65535) count less)
     go false e =
-        let long : 3 * count ≤ n = ltb-false n (3 * count) e in
-        let enough : count ≤ min (n / 3) 65535 = omega arith in
-        rw (le-ltb (min (n / 3) 65535) count enough)
+        let long : rowWords * count ≤ n = ltb-false n (rowWords * count) e in
+        let enough : count ≤ min (n / rowWords) 65535 = omega arith in
+        rw (le-ltb (min (n / rowWords) 65535) count enough)
 
 returns : tie.Need-returns
 unfolding wrong-header
@@ -41,7 +41,7 @@ returns-3 : tie.Need-returns-3
 unfolding wrong-header capacity
 returns-3 c =
     let a = c .before .before .before .before .args in
-    let less : min (length (a .table .now) / 3) 65535 < a .self .count = omega arith in
+    let less : min (length (a .table .now) / rowWords) 65535 < a .self .count = omega arith in
     simp (ne-eqb _ _ (c .before .before .before .if1 .left), le-ltb _ _ (c .before .before .if2 .left), lt-ltb _ _ less)
 
 mul-result : tie.Need-mul-result

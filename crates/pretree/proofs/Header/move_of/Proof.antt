@@ -9,7 +9,7 @@ use native.Mathlib.Numerals.{sub-one}
 use Rattle.pretree.specs.declared.Row.{Row}
 use Rattle.pretree.specs.Table.{capacity, rowAt}
 use Rattle.pretree.specs.Reply.{too-wide}
-use Rattle.pretree.specs.Seek.{bitsLeft}
+use Rattle.pretree.specs.Seek.{rowOf, bitsLeft}
 use Rattle.pretree.proofs.Checks.{right-header}
 use Rattle.pretree.proofs.Sought.{tail-few, tail-less, between-few, mask-few}
 use Rattle.pretree.proofs.Erasing.{ends-last, is-last, no-last, no-link-hangs, nothing-moves, wide-moves, seek-done, seek-moves, seek-hangs}
@@ -136,20 +136,20 @@ place-requires c κs =
 
 hook-of-requires : tie.Need-hook-of-requires
 hook-of-requires c κs =
-    let bits = c .before .before .before in
+    let bits = c .before .before .before .before in
     rw (bits .bits-of .ensures) (le-trans (few (seeking bits)) (width-few (seeking bits)))
 
 -- what the arms tell
 ends-so : (c : tie.At-match-came)
     → let here = seeking (c .before .before) in
-    c .match .ends ≡ ends-last (here .sought .result .row) (start-of here .args .self .count - 1) (c .before .before .before .seek-end .result)
+    c .match .ends ≡ ends-last (rowOf (here .sought .result)) (start-of here .args .self .count - 1) (c .before .before .before .seek-end .result)
 ends-so c =
     let end = c .before .before .before .seek-end .result in
     ⊎-elim (λ x. x .4 ∙ is-last _ _ end _ (x .1 .given .1)) (λ x. x .1 ∙ sym (no-last _ _ end (not-row end (x .0 .keys2)))) (c .match .came)
 
 returns-3 : tie.Need-returns-3
 returns-3 c =
-    let came = c .before .before in
+    let came = c .before .before .before in
     let bits = came .before .before in
     let end = bits .before .seek-end in
     let here = seeking bits in
@@ -157,7 +157,7 @@ returns-3 c =
     let start = start-of here in
     let a = start .args in
     let done = seek-done (a .self) (a .table .now) (row .row-at .result .entry .key) (here .sought .result) (end .result) (start .pre .0) (narrow (here .before)) (start .pre .1) (here .sought .ensures) (end .ensures) in
-    let place = c .before .place .ensures in (
+    let place = c .before .before .place .ensures in (
       seek-moves done (key-is row) place (bits .bits-of .ensures) (c .hook-of .ensures) (came .match .ends) (ends-so came) (a .hole) (apart (row .before)),
       seek-hangs done (key-is row) place (bits .bits-of .ensures) (c .hook-of .ensures),
     )

@@ -4,8 +4,8 @@ use mathlib.Core.Path.{_≡_, refl, sym, _∙_}
 use native.Mathlib.Omega.{arith}
 use borrow.Author.Needs.{needs}
 use Rattle.pretree.specs.declared.leg.End as Ends
-use Rattle.pretree.specs.Table.{rowAt}
-use Rattle.pretree.specs.Seek.{bitsLeft}
+use Rattle.pretree.specs.Table.{rowWords, rowAt}
+use Rattle.pretree.specs.Seek.{aboveOf, bitsLeft}
 use Rattle.pretree.specs.Prev.{leftIfRight}
 use Rattle.pretree.specs.Found.{GreatestFrom}
 use Rattle.pretree.proofs.Checks.{right-header}
@@ -60,28 +60,30 @@ returns-2 c =
 
 row-at-requires : tie.Need-row-at-requires
 row-at-requires c κs =
-    let b = c .before .before .before in
-    last-used (stopped (b .before .before .before)) (rw (b .bits-of .ensures) at (c .if1 .left))
+    let e = c .before in
+    let b = e .before .before .before in
+    last-used (stopped (b .before .before .before)) (rw (b .bits-of .ensures) at (e .if1 .left))
 
 left-if-right-requires : tie.Need-left-if-right-requires
 left-if-right-requires c κs =
-    let b = c .before .before .before .before in
-    rw (b .bits-of .ensures) (few-bits (stopped (b .before .before .before)) (rw (b .bits-of .ensures) at (c .before .if1 .left)))
+    let e = c .before .before in
+    let b = e .before .before .before in
+    rw (b .bits-of .ensures) (few-bits (stopped (b .before .before .before)) (rw (b .bits-of .ensures) at (e .if1 .left)))
 
 answered-requires-2 : tie.Need-answered-requires-2
 answered-requires-2 c κs = search needs
 
 -- the left link that was looked at
 looked : (c : tie.After-left-if-right)
-    → let a = c .before .before .before .before .before .before .before .before .args in
-    c .left-if-right .result ≡ leftIfRight (a .word) (bitsLeft (a .s .mask)) (rowAt (a .table .now) (a .s .above))
+    → let a = c .before .before .before .before .before .before .before .before .before .args in
+    c .left-if-right .result ≡ leftIfRight (a .word) (bitsLeft (a .s .mask)) (rowAt (a .table .now) (aboveOf (a .s)))
 looked c =
-    rw (c .before .row-at .ensures, c .before .before .before .before .before .bits-of .ensures) at (c .left-if-right .ensures)
+    rw (c .before .row-at .ensures, c .before .before .before .before .before .before .bits-of .ensures) at (c .left-if-right .ensures)
 
 returns-3 : tie.Need-returns-3
 returns-3 c =
     let l = c .before .before in
-    let e = l .before .before in
+    let e = l .before .before .before in
     let b = e .before .before .before in
     c .answered2 .ensures
     ∙ rw (l .before .row-at .ensures, e .before .rows-to .ensures, b .bits-of .ensures)
@@ -90,25 +92,25 @@ returns-3 c =
 
 left-of-requires : tie.Need-left-of-requires
 left-of-requires c κs =
-    let e = c .before .before .before in
+    let e = c .before .before .before .before in
     let b = e .before .before .before in
     small-mask (stopped (b .before .before .before)) (rw (b .bits-of .ensures) at (e .if1 .left))
 
 -- a key is a word of the table
-narrow : (c : tie.After-shared-slice-known) → rowAt (c .before .args .table .now) (c .before .args .s .above) .entry .key < 2 ^ 32
+narrow : (c : tie.After-shared-slice-known) → rowAt (c .before .args .table .now) (aboveOf (c .before .args .s)) .entry .key < 2 ^ 32
 unfolding rowAt
-narrow c = omega (arith, c .shared-slice-known .given (3 * c .before .args .s .above))
+narrow c = omega (arith, c .shared-slice-known .given (rowWords * aboveOf (c .before .args .s)))
 
 -- the walk that begins at the left part
 abbrev starts : (c : tie.After-left-of)
-    → GreatestFrom (c .before .before .before .before .before .before .before .before .before .before .args .self) (c .left-of .result)
+    → GreatestFrom (c .before .before .before .before .before .before .before .before .before .before .before .args .self) (c .left-of .result)
 starts c =
-    let e = c .before .before .before .before in
+    let e = c .before .before .before .before .before in
     let b = e .before .before .before in
     let o = b .before .before .before in
     let a = o .args in
     record {
-      walk = leftStart (a .self .count) (rowAt (a .table .now) (a .s .above)) (bitsLeft (a .s .mask));
+      walk = leftStart (a .self .count) (rowAt (a .table .now) (aboveOf (a .s))) (bitsLeft (a .s .mask));
       stands =
           rw (c .left-of .ensures, c .before .before .before .row-at .ensures)
           (part-stands (stopped o) (rw (b .bits-of .ensures) at (e .if1 .left)) (narrow (b .before .before)));
@@ -117,7 +119,7 @@ starts c =
 
 greatest-requires : tie.Need-greatest-requires
 greatest-requires c κs =
-    let r = c .before .before .before .before .before in
+    let r = c .before .before .before .before .before .before in
     let o = r .before .before .before .before .before in
     let a = o .args in
     let few : r .rows-to .result ≤ 33
@@ -129,7 +131,7 @@ returns-4 : tie.Need-returns-4
 returns-4 c =
     let q = c .before in
     let l = q .before .before in
-    let e = l .before .before in
+    let e = l .before .before .before in
     let b = e .before .before .before in
     c .greatest .ensures (starts q)
     ∙ rw (e .before .rows-to .ensures, b .bits-of .ensures)

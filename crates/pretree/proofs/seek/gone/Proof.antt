@@ -1,16 +1,19 @@
 -- The key and the links stand in the table, since the row does.
-use Prim.Native.Nat.{_*_, _/_, _≤_, suc-le-suc}
-use mathlib.Core.Path.{_≡_}
+use Prim.Native.Nat.{ℕ, _+_, _*_, _/_, _≤_, _<_, suc-le-suc}
+use mathlib.Core.Path.{_≡_, sym, _∙_, subst}
 use mathlib.Core.Bool.{Bool, true, false}
+use mathlib.Core.List.{List}
 use native.Mathlib.Omega.{arith}
 use lib.Dec.{ltb}
+use lib.ListN.{getD}
 use mir.Facts.{fits-bits}
 use borrow.Author.Needs.{needs}
 use Rattle.ordered.specs.Such.{if_then_else_}
+use Rattle.ordered.specs.Word.{sideOf}
 use Rattle.pretree.specs.declared.seek.Seek.{Seek}
-use Rattle.pretree.specs.Table.{capacity, rowAt}
-use Rattle.pretree.specs.Seek.{turn}
-use Rattle.pretree.proofs.Writing.{link-read}
+use Rattle.pretree.specs.Table.{rowWords, capacity, rowAt, link}
+use Rattle.pretree.specs.Seek.{rowOf, turn, passed}
+use Rattle.pretree.proofs.Writing.{link-read, key-read}
 use Rattle.pretree.proofs.seek.gone.Statement.{statement}
 use Rattle.pretree.proofs.seek.gone.Tie as tie
 
@@ -65,19 +68,26 @@ unfolding capacity
 shared-slice-read-right c = omega arith
 
 passed-requires : tie.Need-passed-requires
-unfolding rowAt
 passed-requires c κs =
-    let s = c .before .before .before .before .before .args .s in
-    let begins : s .at ≡ 3 * s .row = search needs in
-    rw begins (search needs)
+    let a = c .before .before .before .before .before .args in
+    let begins : a .s .at ≡ rowWords * rowOf (a .s) = search needs in
+    subst (λ (key : ℕ). key < a .word) (sym (key-read (a .table .now) (a .s .at) (rowOf (a .s)) begins)) (search needs)
+
+-- the words of the row, read from the table word at which it begins
+row-words-read : (table : List ℕ) (s : Seek) (k at i b : ℕ) → at ≡ rowWords * i → b < 2
+    → passed s k (getD table at 0) (getD table (at + 1 + b) 0) (getD table (at + 2) 0)
+    ≡ passed s k (rowAt table i .entry .key) (link (rowAt table i) (sideOf b)) (rowAt table i .right)
+unfolding rowAt
+row-words-read table s k at i b begins small = rw (begins, link-read table i b small)
 
 returns : tie.Need-returns
-unfolding rowAt
 returns c =
     let q = c .before .before .before in
     let a = q .before .before .before .args in
-    let begins : a .s .at ≡ 3 * a .s .row = search needs in
-    rw (c .passed .ensures, begins, link-read (a .table .now) (a .s .row) (q .turn .result) (suc-le-suc (side q)), q .turn .ensures)
+    let begins : a .s .at ≡ rowWords * rowOf (a .s) = search needs in
+    c .passed .ensures
+    ∙ row-words-read (a .table .now) (a .s) (a .word) (a .s .at) (rowOf (a .s)) (q .turn .result) begins (suc-le-suc (side q))
+    ∙ rw (q .turn .ensures)
 
 pub gone-spec : {M : Type 1} → statement M
 gone-spec =

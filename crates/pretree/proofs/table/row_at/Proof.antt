@@ -19,14 +19,14 @@ mul-t4 c = fits-bits 64 tt (omega (arith, words c))
 shared-slice-read-t6 : tie.Need-shared-slice-read-t6
 shared-slice-read-t6 c = omega (arith, words (c .before))
 
-add-t8 : tie.Need-add-t8
-add-t8 c = fits-bits 64 tt (omega (arith, words (c .before)))
+add-t7 : tie.Need-add-t7
+add-t7 c = fits-bits 64 tt (omega (arith, words (c .before)))
 
-mul-t9 : tie.Need-mul-t9
-mul-t9 c = fits-bits 64 tt (omega (arith, words (c .before)))
+mul-t8 : tie.Need-mul-t8
+mul-t8 c = fits-bits 64 tt (omega (arith, words (c .before)))
 
-shared-slice-read-t11 : tie.Need-shared-slice-read-t11
-shared-slice-read-t11 c = omega (arith, words (c .before .before))
+shared-slice-read-t10 : tie.Need-shared-slice-read-t10
+shared-slice-read-t10 c = omega (arith, words (c .before .before))
 
 add-t12 : tie.Need-add-t12
 add-t12 c = fits-bits 64 tt (omega (arith, words (c .before .before)))
@@ -36,6 +36,15 @@ mul-t13 c = fits-bits 64 tt (omega (arith, words (c .before .before)))
 
 shared-slice-read-t15 : tie.Need-shared-slice-read-t15
 shared-slice-read-t15 c = omega (arith, words (c .before .before .before))
+
+add-t16 : tie.Need-add-t16
+add-t16 c = fits-bits 64 tt (omega (arith, words (c .before .before .before)))
+
+mul-t17 : tie.Need-mul-t17
+mul-t17 c = fits-bits 64 tt (omega (arith, words (c .before .before .before)))
+
+shared-slice-read-t19 : tie.Need-shared-slice-read-t19
+shared-slice-read-t19 c = omega (arith, words (c .before .before .before .before))
 
 returns : tie.Need-returns
 unfolding rowAt
@@ -48,10 +57,13 @@ row-at-spec =
     mul-at
     mul-t4
     shared-slice-read-t6
-    add-t8
-    mul-t9
-    shared-slice-read-t11
+    add-t7
+    mul-t8
+    shared-slice-read-t10
     add-t12
     mul-t13
     shared-slice-read-t15
+    add-t16
+    mul-t17
+    shared-slice-read-t19
     returns)

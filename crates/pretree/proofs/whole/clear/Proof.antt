@@ -6,7 +6,7 @@ use native.Mathlib.Omega.{arith}
 use borrow.Author.Needs.{needs}
 use borrow.Author.Fill.{fill-more}
 use lib.ListN.{length, set, drop, replicate, length-set}
-use Rattle.pretree.specs.Table.{capacity}
+use Rattle.pretree.specs.Table.{rowWords, capacity}
 use Rattle.pretree.proofs.whole.clear.Statement.{statement}
 use Rattle.pretree.proofs.whole.clear.Tie as tie
 
@@ -22,7 +22,7 @@ Inv-loop table₀ words at₀ table at = Cleared table₀ words table at
 abbrev μ-loop : tie.MeasureT-loop
 μ-loop table₀ words at₀ table at = words - at
 
-rows-inside : (table : List ℕ) → 3 * capacity table ≤ length table
+rows-inside : (table : List ℕ) → rowWords * capacity table ≤ length table
 unfolding capacity
 rows-inside table = omega arith
 
@@ -70,7 +70,7 @@ same-length c = c .before .loop .inv .same
 returns : tie.Need-returns Inv-loop μ-loop
 returns c =
     let inv = c .before .loop .inv in
-    let ended : c .before .loop .at ≡ 3 * c .before .before .capacity .result = omega arith in
+    let ended : c .before .loop .at ≡ rowWords * c .before .before .capacity .result = omega arith in
     rw (← c .before .before .capacity .ensures, ← ended) (inv .zeros)
 
 pub clear-spec : {M : Type 1} → statement M

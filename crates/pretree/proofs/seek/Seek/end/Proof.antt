@@ -3,6 +3,7 @@ use Prim.Native.Nat.{_-_, _≤_, _<_}
 use mathlib.Core.Path.{_≡_}
 use borrow.Author.Needs.{needs}
 use borrow.Author.Tests.{eq-eqb, ne-eqb, lt-ltb, le-ltb}
+use Rattle.pretree.specs.Seek.{rowOf}
 use Rattle.pretree.proofs.seek.Seek.end.Statement.{statement}
 use Rattle.pretree.proofs.seek.Seek.end.Tie as tie
 
@@ -10,14 +11,14 @@ returns : tie.Need-returns
 returns c =
     let a = c .before .before .before .args in
     let less : a .row .entry .key < a .word = search needs in
-    let far : a .self .row ≡ 0 → ⊥ = search needs in
+    let far : rowOf (a .self) ≡ 0 → ⊥ = search needs in
     simp (lt-ltb _ _ less, ne-eqb _ _ far)
 
 returns-2 : tie.Need-returns-2
 returns-2 c =
     let a = c .before .before .before .before .before .args in
     let less : a .row .entry .key < a .word = search needs in
-    let root : a .self .row ≡ 0 = search needs in
+    let root : rowOf (a .self) ≡ 0 = search needs in
     let first : a .self .between ≡ a .word = search needs in
     simp (lt-ltb _ _ less, eq-eqb _ _ root, eq-eqb _ _ first)
 
@@ -25,7 +26,7 @@ returns-3 : tie.Need-returns-3
 returns-3 c =
     let a = c .before .before .before .before .before .args in
     let less : a .row .entry .key < a .word = search needs in
-    let root : a .self .row ≡ 0 = search needs in
+    let root : rowOf (a .self) ≡ 0 = search needs in
     let moved : a .self .between ≡ a .word → ⊥ = search needs in
     simp (lt-ltb _ _ less, eq-eqb _ _ root, ne-eqb _ _ moved)
 

@@ -6,8 +6,8 @@ use borrow.Author.Tests.{lt-ltb, le-ltb, eq-eqb, ne-eqb}
 use Rattle.pretree.proofs.seek.Seek.stepped.Statement.{statement}
 use Rattle.pretree.proofs.seek.Seek.stepped.Tie as tie
 
-mul-t11 : tie.Need-mul-t11
-mul-t11 c = search needs
+mul-t10 : tie.Need-mul-t10
+mul-t10 c = search needs
 
 returns : tie.Need-returns
 returns c =
@@ -26,4 +26,4 @@ returns-2 c =
     (c .before .before .if1 .came)
 
 pub stepped-spec : {M : Type 1} → statement M
-stepped-spec = tie.close (tie.spec mul-t11 returns returns-2)
+stepped-spec = tie.close (tie.spec mul-t10 returns returns-2)

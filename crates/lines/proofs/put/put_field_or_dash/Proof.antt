@@ -3,11 +3,11 @@ use native.Mathlib.Omega.{arith}
 use lib.ListN.{length-set}
 use Rattle.lines.proofs.Puts.{put-then, put-byte}
 use borrow.Author.Needs.{needs}
-use Rattle.lines.proofs.put.put_key.Statement.{statement}
-use Rattle.lines.proofs.put.put_key.Tie as tie
+use Rattle.lines.proofs.put.put_field_or_dash.Statement.{statement}
+use Rattle.lines.proofs.put.put_field_or_dash.Tie as tie
 
-enum-known-key : tie.Need-enum-known-key
-enum-known-key c = search needs
+enum-known-n : tie.Need-enum-known-n
+enum-known-n c = search needs
 
 put-field-requires : tie.Need-put-field-requires
 put-field-requires c κs = search needs
@@ -31,7 +31,7 @@ same-length : tie.Need-same-length
 same-length c = search needs
 
 returns : tie.Need-returns
-returns c = (rw (c .before .before .before .before .before .key .given .1) (c .before .before .put-field .ensures .0), omega arith)
+returns c = (rw (c .before .before .before .before .before .n .given .1) (c .before .before .put-field .ensures .0), omega arith)
 
 same-length-2 : tie.Need-same-length-2
 same-length-2 c = search needs
@@ -42,11 +42,11 @@ returns-2 c =
     let p = put-then {out = a .out .now} {at = a .at} (put-byte 9) (put-byte 45) in
     (rw (c .enum-told .given .1) (record { content = p .content; place = omega arith }), omega arith)
 
-pub put-key-spec : {M : Type 1} → statement M
-put-key-spec =
+pub put-field-or-dash-spec : {M : Type 1} → statement M
+put-field-or-dash-spec =
     tie.close
     (tie.spec
-    enum-known-key
+    enum-known-n
     put-field-requires
     enum-told
     slice-write-out
