@@ -1,4 +1,4 @@
--- Demand 2 of `add`: its writes do to the table what the push does to the tree, so the table shows the tree of the set with the word in it.
+-- Demand 2 for `add`: its writes do to the table what the push does to the tree. So the table then shows the tree of the set with the new word.
 use Prim.Native.Nat.{ℕ, zero, suc, pred, _^_, _<_, _≤_}
 use mathlib.Core.Path.{_≡_, refl, sym, ap, _∙_}
 use mathlib.Core.Bool.{Bool, true, false, _||_}
@@ -11,16 +11,16 @@ use borrow.Author.Tests.{ltb-false, leb-false, lt-ltb, le-ltb, eqb-false, ne-eqb
 use Rattle.ordered.specs.Such.{if_then_else_, no-such, such, first-of, first-such, last-such, anything, isThere}
 use Rattle.ordered.specs.Dictionary.{Entry, words, insert, lookup}
 use Rattle.ordered.specs.Word.{Side, left, right, side}
-use Rattle.ordered.specs.Said.{_∈_}
+use Rattle.ordered.specs.Source004.{_∈_}
 use Rattle.ordered.specs.Tree.{Tree, none, row, damaged, part, exists, entries, listing, intact}
 use Rattle.ordered.specs.Proper.{Fitting, Proper}
 use Rattle.ordered.specs.Way.{Step, Way, way, rows, joined, following, pushing}
 use Rattle.ordered.specs.Change.{Adding, adding, adding-by, ends-at, pushed, left-over, numberAt}
-use Rattle.ordered.specs.Grown.{linking as turned, linked as chained, shifted, pushed-tree, grown as grown-tree}
+use Rattle.ordered.specs.Grown.{linking as turned, chained, shifted, pushed-tree, tree-after-add}
 use Rattle.ordered.proofs.Parts.{no-lookup, words-append}
 use Rattle.ordered.proofs.OneTree.{root-fits, proper-intact}
-use Rattle.ordered.proofs.Ways.{linked-again}
-use Rattle.ordered.proofs.Moves.{taken-by, shifted-takes, linked-append}
+use Rattle.ordered.proofs.Ways.{chained-again}
+use Rattle.ordered.proofs.PushPop.{taken-by, shifted-takes, chained-append}
 use Rattle.ordered.proofs.Grown.{grown-proper, grown-entries}
 use Rattle.ordered.proofs.Answers.{adding-present}
 use Rattle.ordered.proofs.Unbroken.{adding-unbroken}
@@ -36,17 +36,17 @@ use Rattle.pretree.proofs.Writing.{same-capacity}
 use Rattle.pretree.proofs.Rows.{HasRow, has-row, rows-fit, row-written, row-elsewhere, taking-length, hooking-length}
 use Rattle.pretree.specs.declared.Call.the-variants.{Add}
 use Rattle.pretree.specs.Call.{After, after}
-use Rattle.demands.specs.Expected.{Said, Kept, only, expected, changed, kept-after}
+use Rattle.demands.specs.Expected.{AnswerFields, Kept, only, expected, changed, kept-after}
 use Rattle.demands.specs.Demand2.{Holding, Keeps, keptBy, KeepsDictionary}
 use Rattle.demands.proofs.Words.{all-words}
 use Rattle.demands.proofs.Tested.{shown-as, shown-once}
 use Rattle.demands.proofs.Owned.{added-kept}
 use Rattle.demands.proofs.SoundIs.{held-by-entries}
 use Rattle.demands.proofs.Answered.{undamaged, holds-entries, proper, narrow, nothing-changed}
-use Rattle.demands.proofs.Spelled.{Told, Spelled, no-row, a-row, root-number, unfolded-spelled, spelled-shows}
+use Rattle.demands.proofs.Spelled.{RowSpelled, Spelled, no-row, a-row, root-number, unfolded-spelled, spelled-shows}
 use Rattle.demands.proofs.Rewritten.{Once, Same-places, no-place, one-place, same-places, shifted-places, joined-places, same-numbers, none-part, entries-taken, end-hooked, unchanged-taken, taking-both}
 
--- a set with one word more
+-- inserting a new word makes the set one word longer
 insert-length : (e : Entry) (s : List Entry) → isThere (lookup (e .key) s) ≡ false → length (insert e s) ≡ suc (length s)
 unfolding insert lookup first-such
 insert-length e [] out = refl
@@ -79,7 +79,7 @@ nothing-pushed x (suc m) (row i e l r) greatest =
     rw (lt-ltb (e .key) x (greatest (e .key) (List·Memᴰ·head refl)))
     (nothing-pushed x m (part (side m x) l r) (λ y there. greatest y (List·Memᴰ·tail (in-part (side m x) l r there))))
 
--- what is shown, row by row
+-- a table that holds S: its rows spell the tree that it shows, the root is row 0, and no row is in the tree twice
 module _ {h : Header} {table : List ℕ} {S : List Entry} (H : Holding h table S) where
   pub shown-spelled : Spelled (rowAt table) (h .count) (shown h table)
   shown-spelled =
@@ -105,7 +105,7 @@ module _ {h : Header} {table : List ℕ} {S : List Entry} (H : Holding h table S
   unfolding wrong-header
   has-room = ltb-false (capacity table) (h .count) (neither (wrong-width (h .width)) (ltb (capacity table) (h .count)) (H .right-header) .1)
 
--- a proper tree that the rows of a table spell from row 0 is what the table shows
+-- if the rows of a table spell a proper tree from row 0, the table shows that tree
 pub shown-so :
     (h : Header) (table : List ℕ) (t : Tree) → (h .count ≡ 0 → ⊥) → Proper (h .width) 0 0 t → Spelled (rowAt table) (h .count) t → exists t ≡ true → numberAt t ≡ 0
     → shown h table ≡ t
@@ -113,7 +113,7 @@ unfolding shown
 shown-so h table t some p s there root =
     rw (ne-eqb (h .count) 0 some) (ap (unfolded (rowAt table) (h .count) (h .width) 0 0) (sym root) ∙ spelled-shows (rowAt table) (h .count) (h .width) 0 0 t p s there)
 
--- the first row of the tree after a push is row 0
+-- the root of the tree after a push is row 0
 pushed-first :
     {ss us : List Step} → Same-places ss us → (n : ℕ) (e : Entry) (u : Tree) → numberAt (chained ss u) ≡ 0
     → length (entries (chained us (row n e none none))) ≡ suc n
@@ -164,11 +164,11 @@ module _ (h : Header) (table : List ℕ) (S : List Entry) (H : Holding h table S
 
   before-whole : chained before (push .end) ≡ t
   before-whole =
-      linked-append (w .passed) (push .passed) (push .end) ∙ ap (chained (w .passed)) (linked-again pushing (w .bits) (w .end))
-      ∙ linked-again (following k) (h .width) t
+      chained-append (w .passed) (push .passed) (push .end) ∙ ap (chained (w .passed)) (chained-again pushing (w .bits) (w .end))
+      ∙ chained-again (following k) (h .width) t
 
   way-whole : chained (w .passed) (w .end) ≡ t
-  way-whole = linked-again (following k) (h .width) t
+  way-whole = chained-again (following k) (h .width) t
 
   taken : taking (pushed new-entry (push .passed)) table ≡ taking (taken-by later) table
   taken =
@@ -185,9 +185,9 @@ module _ (h : Header) (table : List ℕ) (S : List Entry) (H : Holding h table S
     unfolding grown adding joined
     table-after = rw (absent, taken)
 
-    tree-after : grown-tree (h .count) (h .width) new-entry t ≡ chained later new-row
-    unfolding grown-tree pushed-tree
-    tree-after = rw absent (sym (linked-append (w .passed) (shifted new-entry (push .passed)) new-row))
+    tree-after : tree-after-add (h .count) (h .width) new-entry t ≡ chained later new-row
+    unfolding tree-after-add pushed-tree
+    tree-after = rw absent (sym (chained-append (w .passed) (shifted new-entry (push .passed)) new-row))
 
     module _ (room : suc (h .count) ≤ capacity table) where
       abbrev moved : List ℕ
@@ -219,15 +219,15 @@ module _ (h : Header) (table : List ℕ) (S : List Entry) (H : Holding h table S
 
       leaf : Spelled (rowAt (withRow (h .count) last-row hooked-table)) (suc (h .count)) new-row
       leaf =
-          let told : Told (rowAt (withRow (h .count) last-row hooked-table)) (suc (h .count)) (h .count) (left-over new-entry (push .passed)) none none =
+          let spelled-row : RowSpelled (rowAt (withRow (h .count) last-row hooked-table)) (suc (h .count)) (h .count) (left-over new-entry (push .passed)) none none =
           record {
             in-use = omega arith;
-            as-told = row-written (h .count) hooked-table fits last-row;
+            row-is = row-written (h .count) hooked-table fits last-row;
             named = elim [ left ↦ none-part | right ↦ none-part ];
           } in
-          a-row told no-row no-row
+          a-row spelled-row no-row no-row
 
-      grown-spelled : Spelled (rowAt after-add) (suc (h .count)) (grown-tree (h .count) (h .width) new-entry t)
+      grown-spelled : Spelled (rowAt after-add) (suc (h .count)) (tree-after-add (h .count) (h .width) new-entry t)
       grown-spelled =
           rw (table-after, tree-after)
           (end-hooked (h .count) (suc (h .count)) (push .end) new-row moved (rowAt (withRow (h .count) last-row hooked-table))
@@ -235,8 +235,8 @@ module _ (h : Header) (table : List ℕ) (S : List Entry) (H : Holding h table S
           (λ some. record { not-root = λ there e. omega arith }) places once-later moved-spelled
           (λ j below. row-elsewhere (h .count) hooked-table j (λ e. omega arith) last-row))
 
-    new-row-told : suc (h .count) ≤ capacity table → rowAt after-add (h .count) .entry .key ≡ left-over new-entry (push .passed) .key
-    new-row-told room =
+    new-row-key : suc (h .count) ≤ capacity table → rowAt after-add (h .count) .entry .key ≡ left-over new-entry (push .passed) .key
+    new-row-key room =
         ap (λ x. rowAt x (h .count) .entry .key) table-after
         ∙ ap (λ r. r .entry .key) (row-written (h .count) (hooked-table room) (fits room) (last-row room))
 
@@ -267,7 +267,7 @@ module _ (h : Header) (table : List ℕ) (S : List Entry) (H : Holding h table S
       fitting = root-fits (h .width) k .0 (leb-false (2 ^ h .width) k small)
 
       abbrev new-tree : Tree
-      new-tree = grown-tree (h .count) (h .width) new-entry t
+      new-tree = tree-after-add (h .count) (h .width) new-entry t
 
       new-proper : Proper (h .width) 0 0 new-tree
       new-proper = grown-proper (h .width) 0 0 (h .count) new-entry t fitting (proper H)
@@ -285,7 +285,7 @@ module _ (h : Header) (table : List ℕ) (S : List Entry) (H : Holding h table S
           (ap (λ u. length (entries u)) (sym (tree-after absent)) ∙ ap length new-entries ∙ new-number))
 
       -- the table after `add` shows the tree that the push leaves
-      pub add-shows : shown more after-add ≡ new-tree
+      add-shows : shown more after-add ≡ new-tree
       add-shows =
           shown-so more after-add new-tree (λ e. omega arith) new-proper (grown-spelled absent room-left) (new-first .1) (new-first .0)
 
@@ -311,7 +311,7 @@ module _ (h : Header) (table : List ℕ) (S : List Entry) (H : Holding h table S
   unfolding addOutcome too-wide
   outcome-so = rw (H .right-header, adding-unbroken (h .width) t (undamaged H) new-entry)
 
-  -- so the new row, which is the last one, takes a word greater than all others
+  -- if the new word is greater than all others, it goes into the new row, which is the last one
   module _ (small : leb (2 ^ h .width) k ≡ false) (not-full : eqb (h .count) (capacity table) ≡ false) (greatest : (y : ℕ) → y ∈ words S → y < k) where
     not-there : isThere (lookup k S) ≡ false
     not-there = greatest-absent k S greatest
@@ -323,5 +323,5 @@ module _ (h : Header) (table : List ℕ) (S : List Entry) (H : Holding h table S
     unfolding left-over
     last-row-takes =
         ap (λ o. rowAt (o .table) (pred (o .reply .header .count)) .entry .key) done-so
-        ∙ new-row-told (absent small not-there not-full) (room-left small not-there not-full)
+        ∙ new-row-key (absent small not-there not-full) (room-left small not-there not-full)
         ∙ ap (λ ss. left-over new-entry ss .key) (nothing-pushed k (h .width) t (rw (holds-entries H) greatest))

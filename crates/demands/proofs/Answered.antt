@@ -1,4 +1,4 @@
--- Demand 2 of the calls that write no row: `has`, `next`, `prev`, `gap`, `first`, `last`, `audit`, `list`; and of `new`.
+-- Demand 2 for the calls that write no row (`has`, `next`, `prev`, `gap`, `first`, `last`, `audit`, `list`), and for `new`.
 use Prim.Native.Nat.{ℕ, _*_, _/_, _^_}
 use mathlib.Core.Path.{_≡_, refl, sym, ap, _∙_}
 use mathlib.Core.Bool.{Bool, true, false, _||_}
@@ -29,40 +29,39 @@ use Rattle.pretree.specs.Whole.{newReply, newTable, auditReply, listReply, list
 use Rattle.pretree.specs.declared.Call.{Call}
 use Rattle.pretree.specs.declared.Call.the-variants.{New, Has, Next, Prev, Gap, First, Last, Audit}
 use Rattle.pretree.specs.Call.{After, after}
-use Rattle.demands.specs.Expected.{found, Said, Kept, only, word, expected, changed, kept-after}
-use Rattle.demands.specs.Demand2.{Holding, saidIn, Keeps, keptBy, KeepsDictionary}
+use Rattle.demands.specs.Expected.{found, AnswerFields, Kept, only, word, expected, changed, kept-after}
+use Rattle.demands.specs.Demand2.{Holding, fieldsIn, Keeps, keptBy, KeepsDictionary}
 use Rattle.demands.proofs.Tested.{shown-proper}
 use Rattle.demands.proofs.Owned.{new-kept}
 use Rattle.demands.proofs.SoundIs.{tree-intact, tree-entries, test-of-set, held-by-entries}
 
--- the number, the key and the serial of an answer
-abbrev pub said-by : Answer → Said
-said-by a = record { number = numberOf a; key = keyOf a; serial = serialOf a }
+abbrev fields-of : Answer → AnswerFields
+fields-of a = record { number = numberOf a; key = keyOf a; serial = serialOf a }
 
-said-word : (p : Perhaps Found) → said-by (saying say-word p) ≡ word (its wordIn p)
+word-fields : (p : Perhaps Found) → fields-of (saying say-word p) ≡ word (its wordIn p)
 unfolding numberOf keyOf serialOf
-said-word no-such = refl
-said-word (such x) = refl
+word-fields no-such = refl
+word-fields (such x) = refl
 
--- the word of the entry that is found
-said-entry : (p : Perhaps Found) {q : Perhaps Entry} → entryIn p ≡ q → said-by (saying say-word p) ≡ word (wordOf q)
-said-entry p found = said-word p ∙ ap word (word-entry p ∙ ap wordOf found)
+-- an answer with the word of the entry that was found
+entry-fields : (p : Perhaps Found) {q : Perhaps Entry} → entryIn p ≡ q → fields-of (saying say-word p) ≡ word (wordOf q)
+entry-fields p found = word-fields p ∙ ap word (word-entry p ∙ ap wordOf found)
 
-said-distance : (p : Perhaps ℕ) → said-by (saying Distance p) ≡ word p
+distance-fields : (p : Perhaps ℕ) → fields-of (saying Distance p) ≡ word p
 unfolding numberOf keyOf serialOf
-said-distance no-such = refl
-said-distance (such x) = refl
+distance-fields no-such = refl
+distance-fields (such x) = refl
 
-said-serial : (p : Perhaps Found) {q : Perhaps Entry} → entryIn p ≡ q → said-by (saying say-serial p) ≡ found q
+serial-fields : (p : Perhaps Found) {q : Perhaps Entry} → entryIn p ≡ q → fields-of (saying say-serial p) ≡ found q
 unfolding numberOf keyOf serialOf
-said-serial no-such same = ap found same
-said-serial (such x) same = ap found same
+serial-fields no-such same = ap found same
+serial-fields (such x) same = ap found same
 
 either-way : {A : Type 0} (b : Bool) (x : A) → (if b then x else x) ≡ x
 either-way true x = refl
 either-way false x = refl
 
--- what a header and table that hold the set S show
+-- what a header and a table that hold the set S show
 module _ {h : Header} {table : List ℕ} {S : List Entry} (H : Holding h table S) where
   pub undamaged : intact (shown h table) ≡ true
   undamaged = tree-intact h table S (H .holds .increasing) (H .holds .below) (H .holds .tree)
@@ -73,7 +72,7 @@ module _ {h : Header} {table : List ℕ} {S : List Entry} (H : Holding h table S
   pub proper : Proper (h .width) 0 0 (shown h table)
   proper = shown-proper h table undamaged
 
--- "k is 2^W or more", or it is on the path of the root
+-- a word that is not "2^W or more" is on the path of the root
 pub narrow : (h : Header) (k : ℕ) → leb (2 ^ h .width) k ≡ false → k / 2 ^ h .width ≡ 0
 narrow h k e = on-root-path (h .width) k .0 (leb-false (2 ^ h .width) k e)
 
@@ -95,23 +94,23 @@ module _ (h : Header) (table buffer : List ℕ) (S : List Entry) (H : Holding h 
   leaving r = record { reply = r; table = table; buffer = buffer }
 
   -- an answer that changes nothing
-  pub nothing-changed : (r : Reply) (said : Said) → saidIn r ≡ said → r .header ≡ h → Keeps said kept table (leaving r)
-  nothing-changed r said e same =
+  pub nothing-changed : (r : Reply) (fields : AnswerFields) → fieldsIn r ≡ fields → r .header ≡ h → Keeps fields kept table (leaving r)
+  nothing-changed r fields e same =
       record { answer = e; width = ap (λ g. g .width) same; held = rw same H; written = refl; same-length = refl }
 
-  -- a call that reads: 3, or what was found
-  read : {A : Type 0} (wide : Bool) (say : A → Answer) (r : Reading A) (said : Said) → brokenIn (r .ways) ≡ false
-      → (wide ≡ false → said-by (saying say (r .answer)) ≡ said)
-      → let all : Said = if wide then only 3 else said in
+  -- a reading call: answer 3, or what was found
+  read : {A : Type 0} (wide : Bool) (say : A → Answer) (r : Reading A) (fields : AnswerFields) → brokenIn (r .ways) ≡ false
+      → (wide ≡ false → fields-of (saying say (r .answer)) ≡ fields)
+      → let all : AnswerFields = if wide then only 3 else fields in
       Keeps all (if eqb (all .number) 0 || eqb (all .number) 7 then kept else kept) table (leaving (read-reply h table wide say r))
   unfolding numberOf keyOf serialOf
-  read wide say r said sound found =
-      rw (either-way (eqb ((if wide then only 3 else said) .number) 0 || eqb ((if wide then only 3 else said) .number) 7) kept, H .right-header, sound) (either wide found)
+  read wide say r fields sound found =
+      rw (either-way (eqb ((if wide then only 3 else fields) .number) 0 || eqb ((if wide then only 3 else fields) .number) 7) kept, H .right-header, sound) (either wide found)
     where
-      either : (b : Bool) → (b ≡ false → said-by (saying say (r .answer)) ≡ said)
-          → Keeps (if b then only 3 else said) kept table (leaving (if b then refused h WordTooWide else answered h (saying say (r .answer)) (rowsOf (r .ways))))
+      either : (b : Bool) → (b ≡ false → fields-of (saying say (r .answer)) ≡ fields)
+          → Keeps (if b then only 3 else fields) kept table (leaving (if b then refused h WordTooWide else answered h (saying say (r .answer)) (rowsOf (r .ways))))
       either true found = nothing-changed (refused h WordTooWide) (only 3) refl refl
-      either false found = nothing-changed (answered h (saying say (r .answer)) (rowsOf (r .ways))) said (found refl) refl
+      either false found = nothing-changed (answered h (saying say (r .answer)) (rowsOf (r .ways))) fields (found refl) refl
 
   abbrev t : Tree
   t = shown h table
@@ -122,7 +121,7 @@ module _ (h : Header) (table buffer : List ℕ) (S : List Entry) (H : Holding h 
     keeps-has =
         read (leb (2 ^ h .width) k) say-serial (has-read (h .width) k t) (found (lookup k S)) (has-unbroken (h .width) t (undamaged H) k)
         (λ e.
-        said-serial (has-read (h .width) k t .answer)
+        serial-fields (has-read (h .width) k t .answer)
         (has-answer (h .width) k 0 0 t (narrow h k e) (proper H) ∙ ap (lookup k) (holds-entries H)))
 
     pub keeps-next : KeepsDictionary after (Next k) h table buffer S
@@ -130,7 +129,7 @@ module _ (h : Header) (table buffer : List ℕ) (S : List Entry) (H : Holding h 
     keeps-next =
         read (leb (2 ^ h .width) k) say-word (next-read (h .width) k t) (word (wordOf (successor k S))) (next-unbroken (h .width) t (undamaged H) k)
         (λ e.
-        said-entry (next-read (h .width) k t .answer)
+        entry-fields (next-read (h .width) k t .answer)
         (next-answer (h .width) k 0 0 t (narrow h k e) (proper H) ∙ ap (successor k) (holds-entries H)))
 
     pub keeps-prev : KeepsDictionary after (Prev k) h table buffer S
@@ -138,7 +137,7 @@ module _ (h : Header) (table buffer : List ℕ) (S : List Entry) (H : Holding h 
     keeps-prev =
         read (leb (2 ^ h .width) k) say-word (prev-read (h .width) k t) (word (wordOf (predecessor k S))) (prev-unbroken (h .width) t (undamaged H) k)
         (λ e.
-        said-entry (prev-read (h .width) k t .answer)
+        entry-fields (prev-read (h .width) k t .answer)
         (prev-answer (h .width) k 0 0 t (narrow h k e) (proper H) ∙ ap (predecessor k) (holds-entries H)))
 
     abbrev distance : List Entry → Perhaps ℕ
@@ -148,19 +147,19 @@ module _ (h : Header) (table buffer : List ℕ) (S : List Entry) (H : Holding h 
     unfolding after expected kept-after changed gapReply too-wide
     keeps-gap =
         read (leb (2 ^ h .width) k) Distance (gap-read (h .width) k t) (word (distance S)) (gap-unbroken (h .width) t (undamaged H) k)
-        (λ e. said-distance (gap-read (h .width) k t .answer) ∙ ap word (gap-answer (h .width) k 0 0 t (narrow h k e) (proper H) ∙ ap distance (holds-entries H)))
+        (λ e. distance-fields (gap-read (h .width) k t .answer) ∙ ap word (gap-answer (h .width) k 0 0 t (narrow h k e) (proper H) ∙ ap distance (holds-entries H)))
 
   pub keeps-first : KeepsDictionary after First h table buffer S
   unfolding after expected kept-after changed firstReply
   keeps-first =
       read false say-word (first-read (h .width) t) (word (wordOf (min S))) (first-unbroken (h .width) t (undamaged H))
-      (λ e. said-entry (first-read (h .width) t .answer) (first-answer (h .width) t ∙ ap min (holds-entries H)))
+      (λ e. entry-fields (first-read (h .width) t .answer) (first-answer (h .width) t ∙ ap min (holds-entries H)))
 
   pub keeps-last : KeepsDictionary after Last h table buffer S
   unfolding after expected kept-after changed lastReply
   keeps-last =
       read false say-word (last-read (h .width) t) (word (wordOf (max S))) (last-unbroken (h .width) t (undamaged H))
-      (λ e. said-entry (last-read (h .width) t .answer) (last-answer (h .width) 0 0 t (proper H) ∙ ap max (holds-entries H)))
+      (λ e. entry-fields (last-read (h .width) t .answer) (last-answer (h .width) 0 0 t (proper H) ∙ ap max (holds-entries H)))
 
   pub keeps-audit : KeepsDictionary after Audit h table buffer S
   unfolding after expected kept-after changed auditReply numberOf keyOf serialOf

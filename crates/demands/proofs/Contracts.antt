@@ -1,5 +1,5 @@
--- The proofs of specs/Contracts.antt. Each `Post` computes to what the `ensures` clauses claim: an equation for the reply, and one for the
--- words lent as `&mut`.
+-- The proofs of specs/Contracts.antt. Each `Post` computes to what the `ensures` clauses claim: an equation for the reply, and one for the words
+-- lent as `&mut`.
 use Prim.Native.Nat.{ℕ}
 use mathlib.Core.Path.{_≡_, sym, ap, _∙_, fun-ext}
 use mathlib.Core.Logic.{_↔_}
@@ -10,7 +10,7 @@ use Rattle.pretree.specs.declared.Call.the-variants.{New, Add, Del, Has, Next, 
 use Rattle.pretree.specs.Call.{After, after}
 use Rattle.demands.specs.Contracts.{Loan, Contract, Requires, AsksNothing, ContractIsAfter, OneOutcome, FreshIs, OneProgram}
 
--- an outcome is its three parts, however a contract groups them
+-- two outcomes are equal if their reply, table and buffer are equal; a contract groups these three in different ways
 module _ {x y : After} where
   only-replies : ((x .reply ≡ y .reply) × (x .table ≡ y .table) × (x .buffer ≡ y .buffer)) ↔ (x ≡ y)
   only-replies = (

@@ -1,5 +1,5 @@
--- The calls test for exactly the damage of document 01 (`damage-tested`). The reason: the tree that a table shows is the tree that its links name,
--- pruned at the damaged rows.
+-- The calls test for exactly the damage of document 01 (`damage-tested`). The reason: the tree that a table shows is the tree that its links
+-- name, pruned at the damaged rows.
 use Prim.Native.Nat.{ℕ, zero, suc, _+_, _*_, _-_, _/_, _%_, _^_, _<_, _≤_, pred}
 use mathlib.Core.Path.{_≡_, refl, sym, ap, subst, _∙_}
 use mathlib.Core.Bool.{Bool, true, false, not, _&&_, _||_, or-false, and-assoc, and-false, false≢true}
@@ -9,7 +9,7 @@ use lib.Dec.{ltb, leb, eqb}
 use borrow.Author.Tests.{ltb-false, leb-false, eqb-false, lt-leb}
 use Rattle.ordered.specs.Such.{if_then_else_, Perhaps, no-such, such, only-if, isThere}
 use Rattle.ordered.specs.Word.{Side, left, right, bitOf, side}
-use Rattle.ordered.specs.Said.{Whether}
+use Rattle.ordered.specs.Source004.{Whether}
 use Rattle.ordered.specs.Dictionary.{Entry}
 use Rattle.ordered.specs.Tree.{Tree, none, row, damaged, exists, intact}
 use Rattle.ordered.specs.Way.{Way, way, broken, isDamaged, following}
@@ -29,20 +29,20 @@ use Rattle.pretree.specs.Del.{secondWay, astray}
 use Rattle.pretree.specs.declared.Call.{Call}
 use Rattle.pretree.specs.declared.Call.the-variants.{New, Add, Del, Has, Next, Prev, Gap, First, Last, Audit}
 use Rattle.demands.specs.Damage.{named-from, named, Visit, root, below, visit, visitAt, Damaged, DamagedAt, link-too-far, key-too-wide, key-not-greater, key-off-the-path, link-at-depth-W}
-use Rattle.demands.specs.Damage.{wayOf, EndsAt, Absent, Moves, last-key, FindsLast, SecondDamage, DamageOn, OneRow, NoneInSets}
+use Rattle.demands.specs.Damage.{wayOf, EndsAt, Absent, LastRowMoves, last-key, FindsLast, SecondDamage, DamageOn, OneRow, NoneInSets}
 use Rattle.demands.specs.Refusals.{waysOf}
-use Rattle.demands.proofs.Unfolding.{NoDamage, hanging, picked, judged-so, no-link}
+use Rattle.demands.proofs.Unfolding.{NoDamage, part-shown, picked, judged-so, no-link}
 use Rattle.demands.proofs.SoundIs.{tree-intact}
 use Rattle.demands.proofs.SecondWay.{second-way-ends}
 use Rattle.demands.proofs.Meeting.{below-width, longer}
-use Rattle.demands.proofs.Whether.{fails, never, both-tested, not-tested, equal-tested, said-so, else-tested}
+use Rattle.demands.proofs.Whether.{fails, never, both-tested, not-tested, equal-tested, same-test, else-tested}
 
 -- the least key allowed below a row with this key
 abbrev least : Perhaps ℕ → ℕ
 least no-such = 0
 least (such k) = suc k
 
--- `visit` finds v at place p, however many levels beyond its depth are allowed
+-- `visit` finds v at place p, however many more levels than its depth are allowed
 record Stands (rows : ℕ → Row) (p : ℕ) (v : Visit) : Type 0 where
   some-place : 1 ≤ p
   there : (m : ℕ) → v .depth ≤ m → visit rows m p ≡ v
@@ -132,7 +132,7 @@ module _ (h : Header) (table : List ℕ) where
   abbrev number : ℕ → ℕ
   number p = visitAt h table p .at
 
-  -- the tree that is shown is the tree that is named, pruned at the damaged rows
+  -- the tree that a table shows is the tree that its links name, pruned at the damaged rows
   linked-pruned : (f g : ℕ → Tree) (j : ℕ) → Pruned Bad number (f j) (g j) → Pruned Bad number (linked f j) (linked g j)
   linked-pruned f g zero pruned = empty
   linked-pruned f g (suc j) pruned = pruned
@@ -149,7 +149,7 @@ module _ (h : Header) (table : List ℕ) where
 
   row-pruned :
       (m p : ℕ) (v : Visit) → Stands (rowAt table) p v → v .depth + m ≡ h .width
-      → ((s : Side) → Pruned Bad number (naming m p (v .at) s) (hanging (rowAt table) (h .count) m (v .path) (v .at) s))
+      → ((s : Side) → Pruned Bad number (naming m p (v .at) s) (part-shown (rowAt table) (h .count) m (v .path) (v .at) s))
       → Pruned Bad number (named-from (rowAt table) m p (v .at)) (unfolded (rowAt table) (h .count) m (v .path) (least (v .above)) (v .at))
   row-pruned m p v st whole parts = rw (named-row m p (v .at)) (by-cases (judgement m v whole) refl)
     where
@@ -160,7 +160,7 @@ module _ (h : Header) (table : List ℕ) where
       entry = entryOf (rowAt table (v .at))
 
       part : Side → Tree
-      part = hanging (rowAt table) (h .count) m (v .path) (v .at)
+      part = part-shown (rowAt table) (h .count) m (v .path) (v .at)
 
       whole-row : Tree
       whole-row = row p entry (naming m p (v .at) left) (naming m p (v .at) right)
@@ -224,7 +224,7 @@ ends-tested k w = at-end (w .bits) (w .end)
     at-end m damaged = never (λ there. false≢true (sym (ap isDamaged (there .1 .4))))
     at-end m (row p e l r) =
         rw (passes (eqb k (e .key)) (record { entry = e; bits = m }))
-        (said-so (λ same. (p, (e, l, r, sym same, refl))) (λ there. sym (there .1 .3) ∙ sym (ap (λ t. entryAt t .key) (there .1 .4)))
+        (same-test (λ same. (p, (e, l, r, sym same, refl))) (λ there. sym (there .1 .3) ∙ sym (ap (λ t. entryAt t .key) (there .1 .4)))
         (equal-tested k (e .key)))
 
 -- the test that each call makes
@@ -266,7 +266,7 @@ module _ (h : Header) (table : List ℕ) where
 
       finds-last : Whether (FindsLast h table) (ends-at k w && eqb (number h table (numberAt (w .end))) last)
       finds-last =
-          said-so there back
+          same-test there back
           (both-tested (ends-at k w) (eqb (number h table (numberAt (w .end))) last) (ends-tested k w)
           (equal-tested (number h table (numberAt (w .end))) last))
         where
@@ -303,15 +303,15 @@ module _ (h : Header) (table : List ℕ) where
       cut-erasing : CutErasing (Bad h table) (number h table) e e′
       cut-erasing = erasing-tested (h .width) (shown-pruned h table) k (no-place h table)
 
-      moves-tested : broken (e′ .rows-read) ≡ false → Whether (Moves k h table) (e′ .present && not (eqb (e′ .hole) last))
+      moves-tested : broken (e′ .rows-read) ≡ false → Whether (LastRowMoves k h table) (e′ .present && not (eqb (e′ .hole) last))
       moves-tested whole =
           rw (← cut-erasing .same-presence whole, ← cut-erasing .same-hole whole, erasing-finds (h .width) k (named h table))
-          (said-so (λ m. record { present = m .0; hole-elsewhere = m .1 }) (λ m. (m .present, m .hole-elsewhere))
+          (same-test (λ m. record { present = m .0; hole-elsewhere = m .1 }) (λ m. (m .present, m .hole-elsewhere))
           (both-tested (ends-at k w) (not (eqb (number h table (e .hole)) last)) (ends-tested k w)
           (not-tested (eqb (number h table (e .hole)) last) (equal-tested (number h table (e .hole)) last))))
 
       moved : broken (e′ .rows-read) ≡ false
-          → Whether (Moves k h table × SecondDamage h table) (e′ .present && (not (eqb (e′ .hole) last) && (broken second || astray h table second)))
+          → Whether (LastRowMoves k h table × SecondDamage h table) (e′ .present && (not (eqb (e′ .hole) last) && (broken second || astray h table second)))
       moved whole =
           rw (← and-assoc)
           (both-tested (e′ .present && not (eqb (e′ .hole) last)) (broken second || astray h table second) (moves-tested whole) second-tested)
@@ -331,14 +331,14 @@ damage-tested Last h table = last-tested (h .width) (shown-pruned h table)
 damage-tested Audit h table = never (λ no. no)
 damage-tested Call.List h table = never (λ no. no)
 
--- an `add` that meets no damage finds out whether its word is absent
+-- if an `add` meets no damage, its test says whether the word is absent
 pub absent-tested : (k serial : ℕ) (h : Header) (table : List ℕ) → broken (adding (h .width) (entryFor k serial) (shown h table) .rows-read) ≡ false
     → Whether (Absent k h table) (not (adding (h .width) (entryFor k serial) (shown h table) .present))
 absent-tested k serial h table whole =
     rw (← adding-tested (h .width) (shown-pruned h table) (entryFor k serial) .same-presence whole, adding-finds (h .width) (entryFor k serial) (named h table))
     (not-tested (ends-at k (wayOf k h table)) (ends-tested k (wayOf k h table)))
 
--- no damage on a table that holds a set: no way breaks there, and the second way of a `del` finds the last row
+-- A table that holds a set has no damage: no way meets any, and the second way of a `del` finds the last row.
 pub none-in-sets : NoneInSets
 unfolding damageTest waysOf secondWay way shown
 none-in-sets c h table S held = fails (rw (passes c) at (damage-tested c h table))
@@ -379,7 +379,7 @@ none-in-sets c h table S held = fails (rw (passes c) at (damage-tested c h table
     passes Audit = refl
     passes Call.List = refl
 
--- a test by computing; `damage-tested` covers every table
+-- A test by computation. `damage-tested` covers every table.
 pub one-row : OneRow
 unfolding damageTest waysOf has brokenIn broken way following side shown unfolded rowAt
 one-row = record { has-4 = fails (damage-tested (Has 4) h table); has-8 = damage-tested (Has 8) h table .0 refl }

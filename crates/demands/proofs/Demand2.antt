@@ -1,4 +1,4 @@
--- Demand 2, from the proofs of its calls; and its corollary for sequences of calls.
+-- Demand 2, put together from the proofs for each call; and its corollary for sequences of calls.
 use Prim.Native.Nat.{ℕ, _≤_}
 use mathlib.Core.Path.{_≡_, refl, subst, _∙_}
 use mathlib.Core.Bool.{false}
@@ -33,7 +33,7 @@ demand2 Last h table buffer S H = keeps-last h table buffer S H
 demand2 Audit h table buffer S H = keeps-audit h table buffer S H
 demand2 Call.List h table buffer S H = keeps-list h table buffer S H
 
--- demand 2 for a call with a buffer of its own, where the table has room for `room` words
+-- demand 2 for a call with the buffer lent with it, if the table has room for `room` words
 module _ (room : ℕ) (a : Asked) (s : State) (k : Kept) (same-room : capacity (s .table) ≡ room) (H : HoldsKept s k) where
   pub answers-as : AnswersAs after room a s k
   answers-as =
@@ -48,7 +48,7 @@ module _ (room : ℕ) (a : Asked) (s : State) (k : Kept) (same-room : capacity (
   room-stays : capacity (state-after after a s .table) ≡ room
   room-stays = same-capacity (state-after after a s .table) (s .table) (answers-as .same-length) ∙ same-room
 
--- what holds of a call in each state that holds what the dictionary keeps holds of each call of a list
+-- If P holds of a call in every state that holds what the dictionary keeps, P holds of each call of a list.
 module _ (room : ℕ) where
   abbrev Here : State → Kept → Type 0
   Here s k = (capacity (s .table) ≡ room) × HoldsKept s k

@@ -1,4 +1,4 @@
--- The three demands, together: of `after`, and so of every program that keeps the contracts, since `after` is the only one.
+-- The three demands together. They hold of `after`, so they hold of every program that keeps the contracts, since `after` is the only one.
 use mathlib.Core.Path.{sym, subst}
 use Rattle.pretree.specs.Call.{after}
 use Rattle.demands.specs.Demands.{Demands, DemandsMet}

@@ -1,4 +1,4 @@
--- Where an erase ends, what its writes leave of the links, and the words after it: laws for demand 2 of `del`.
+-- Laws for demand 2 of `del`: where an erase ends, which links its writes leave, and the words after it.
 use Prim.Native.Nat.{ℕ, zero, suc, pred, _+_, _*_, _<_}
 use mathlib.Core.Path.{_≡_, refl, sym, ap, _∙_}
 use mathlib.Core.Bool.{Bool, true, false, false≢true}
@@ -11,13 +11,13 @@ use borrow.Author.Tests.{eqb-true, eqb-false, ne-eqb}
 use Rattle.ordered.specs.Such.{if_then_else_, Perhaps, no-such, such, first-of, first-such, only-if, isThere}
 use Rattle.ordered.specs.Word.{Side, left, right, bitOf}
 use Rattle.ordered.specs.Dictionary.{Entry, words, Increasing, none-increasing, one-increasing, delete, lookup}
-use Rattle.ordered.specs.Said.{_∈_}
+use Rattle.ordered.specs.Source004.{_∈_}
 use Rattle.ordered.specs.Tree.{Tree, none, row, damaged, part, exists, entries, listing, intact}
 use Rattle.ordered.specs.Proper.{Proper}
 use Rattle.ordered.specs.Way.{Step, Rule, stop, to, way, rows, down}
 use Rattle.ordered.specs.Reading.{Found, wordIn, root-row}
 use Rattle.ordered.specs.Change.{Take, numberAt}
-use Rattle.ordered.specs.Grown.{linking as turned, linked as chained}
+use Rattle.ordered.specs.Grown.{linking as turned, chained}
 use Rattle.ordered.proofs.Parts.{all-map, above-all, delete-absent, words-append}
 use Rattle.ordered.proofs.Lists.{above-less}
 use Rattle.ordered.proofs.Ways.{at-bottom, at-none, at-damage, at-stop, At-end, Onward, along}
@@ -31,9 +31,9 @@ use Rattle.demands.specs.Numbers.{numbers, often, renamed}
 use Rattle.demands.proofs.Numbers.{intact-unnumbered, entries-unnumbered, unnumbered-renamed}
 use Rattle.demands.proofs.Links.{moved-into}
 use Rattle.demands.proofs.Spelled.{Spelled, a-row}
-use Rattle.demands.proofs.Rewritten.{Same-places, no-place, one-place, Hook-told, hook-told}
+use Rattle.demands.proofs.Rewritten.{Same-places, no-place, one-place, HookRow, hook-row}
 
--- a set with one word less
+-- deleting a word that is there makes the set one word shorter
 pub delete-length : (x : ℕ) (s : List Entry) → Increasing (words s) → isThere (lookup x s) ≡ true → suc (length (delete x s)) ≡ length s
 unfolding delete lookup first-such
 delete-length x [] none-increasing there = absurd (false≢true there)
@@ -47,11 +47,11 @@ delete-length x (f ∷ s) (one-increasing a h) there = by-cases (eqb x (f .key))
         ap (λ es. suc (length es)) (delete-absent x s (all-map (λ z less. ne-eqb x (z .key) (λ equal. omega arith)) (above-all s a)))
     by-cases false e there rest = ap suc (rest there)
 
--- where an erase ends: at a row without parts
+-- an erase ends at a row without parts
 pub data Leaf : Tree → Type 0 where
   leaf : {i : ℕ} {e : Entry} → Leaf (row i e none none)
 
-pub absent-part : (t : Tree) → exists t ≡ false → t ≡ none
+absent-part : (t : Tree) → exists t ≡ false → t ≡ none
 absent-part none e = refl
 absent-part (row i e l r) e′ = cc
 absent-part damaged e = cc
@@ -92,13 +92,13 @@ leaf-end = along (down left) (λ m t w. (path low : ℕ) → Proper m path low t
         onward right false is-left true is-right says = is-right
         onward right false is-left false is-right says = cc
 
--- the way of k that ends at k ends at a row
+-- a way that ends at k ends at a row
 pub ends-row : (k m : ℕ) (t : Tree) → isThere (only-if (λ f. eqb k (wordIn f)) (root-row m t)) ≡ true → exists t ≡ true
 ends-row k m none e = e
 ends-row k m (row i e l r) e′ = refl
 ends-row k m damaged e = cc
 
--- the words that rows spell are their keys
+-- the words of a tree that rows spell are the keys of these rows
 module _ (rows : ℕ → Row) (n : ℕ) where
   abbrev pub keyOf-row : ℕ → ℕ
   keyOf-row j = rows j .entry .key
@@ -108,13 +108,13 @@ module _ (rows : ℕ → Row) (n : ℕ) where
   spelled-keys none s = refl
   spelled-keys (row i e l r) (a-row s u v) =
       rw (words-append, map-append, spelled-keys l u, spelled-keys r v)
-      (ap (λ k. k ∷ (map keyOf-row (numbers l) ++ map keyOf-row (numbers r))) (sym (ap (λ x. x .entry .key) (s .as-told))))
+      (ap (λ k. k ∷ (map keyOf-row (numbers l) ++ map keyOf-row (numbers r))) (sym (ap (λ x. x .entry .key) (s .row-is))))
 
 pub in-map : (key : ℕ → ℕ) {xs : List ℕ} {i : ℕ} → i ∈ xs → key i ∈ map key xs
 in-map key (List·Memᴰ·head e) = List·Memᴰ·head (ap key e)
 in-map key (List·Memᴰ·tail there) = List·Memᴰ·tail (in-map key there)
 
--- so no two rows have one key
+-- so no two rows have the same key
 pub one-key : (key : ℕ → ℕ) (xs : List ℕ) {i j : ℕ} → Increasing (map key xs) → i ∈ xs → j ∈ xs → key i ≡ key j → i ≡ j
 one-key key (x ∷ xs) (one-increasing a h) (List·Memᴰ·head e) (List·Memᴰ·head e′) same = e ∙ sym e′
 one-key key (x ∷ xs) (one-increasing a h) (List·Memᴰ·head e) (List·Memᴰ·tail there) same =
@@ -123,13 +123,13 @@ one-key key (x ∷ xs) (one-increasing a h) (List·Memᴰ·tail there) (List·Me
     absurd (omega (arith, above-less a (in-map key there), ap key e))
 one-key key (x ∷ xs) (one-increasing a h) (List·Memᴰ·tail there) (List·Memᴰ·tail there′) same = one-key key xs h there there′ same
 
--- writes of entries leave every link
+-- writing entries changes no link
 pub taking-link : (ts : List Take) (table : List ℕ) (j : ℕ) (s : Side) → link (rowAt (taking ts table) j) s ≡ link (rowAt table j) s
 unfolding taking
 taking-link [] table j s = refl
 taking-link (x ∷ ts) table j s = taking-link ts (withEntry (x .at) (x .entry) table) j s ∙ link-stays (x .at) (x .entry) table j s
 
--- a link that is not the one that is set stays
+-- setting one link changes no other link
 pub hooking-link :
     (p : Perhaps Step) (v : ℕ) (table : List ℕ) (j : ℕ) (s : Side)
     → ((q : Step) → p ≡ such q → HasRow table (q .at) × (q .at ≡ j → q .turn ≡ s → ⊥))
@@ -151,41 +151,41 @@ hooking-link (such q) v table j s differs = by-cases (eqb j (q .at)) refl
         ∙ beside (q .turn) s (rowAt table (q .at)) (differs q refl .1 (sym same)) ∙ ap (λ i. link (rowAt table i) s) (sym same)
     by-cases false e = ap (λ r. link r s) (link-elsewhere (q .at) table j (eqb-false j (q .at) e) (q .turn) v)
 
--- what a row without parts tells
-pub record Leaf-told (rows : ℕ → Row) (n : ℕ) (u : Tree) : Type 0 where
+-- what is known of a row without parts that the rows of a table spell
+pub record LeafRow (rows : ℕ → Row) (n : ℕ) (u : Tree) : Type 0 where
   pub in-use : numberAt u < n
   pub inside : numberAt u ∈ numbers u
   pub alone : (j : ℕ) → (j ≡ numberAt u → ⊥) → often j (numbers u) ≡ 0
   pub no-links : (s : Side) → link (rows (numberAt u)) s ≡ 0
 
-pub leaf-told : {rows : ℕ → Row} {n : ℕ} (u : Tree) → Leaf u → Spelled rows n u → Leaf-told rows n u
+pub leaf-row : {rows : ℕ → Row} {n : ℕ} (u : Tree) → Leaf u → Spelled rows n u → LeafRow rows n u
 unfolding numbers often
-leaf-told (row i e none none) leaf (a-row told u v) =
+leaf-row (row i e none none) leaf (a-row spelled-row u v) =
     record {
-      in-use = told .in-use;
+      in-use = spelled-row .in-use;
       inside = List·Memᴰ·head refl;
       alone = λ j apart. rw (ne-eqb j i apart);
-      no-links = elim [ left ↦ ap (λ x. x .left) (told .as-told) | right ↦ ap (λ x. x .right) (told .as-told) ];
+      no-links = elim [ left ↦ ap (λ x. x .left) (spelled-row .row-is) | right ↦ ap (λ x. x .right) (spelled-row .row-is) ];
     }
 
--- the row at which the way of a word ends, where the word is there
+-- if the way of a word ends at it, the row at the end has that word
 pub end-is :
     {rows : ℕ → Row} {n : ℕ} (x m : ℕ) (u : Tree) → Spelled rows n u → isThere (only-if (λ f. eqb x (wordIn f)) (root-row m u)) ≡ true
     → (rows (numberAt u) .entry .key ≡ x) × (numberAt u ∈ numbers u)
 unfolding numbers
 end-is x m none s found = absurd (false≢true found)
-end-is {rows} x m (row i e l r) (a-row told u v) found = by-cases (eqb x (e .key)) refl found
+end-is {rows} x m (row i e l r) (a-row spelled-row u v) found = by-cases (eqb x (e .key)) refl found
   where
     by-cases : (b : Bool) → eqb x (e .key) ≡ b → isThere {A = Found} (if b then such (record { entry = e; bits = m }) else no-such) ≡ true → (rows i .entry .key ≡ x) × (i ∈ numbers (row i e l r))
-    by-cases true same found = (ap (λ y. y .entry .key) (told .as-told) ∙ sym (eqb-true x (e .key) same), List·Memᴰ·head refl)
+    by-cases true same found = (ap (λ y. y .entry .key) (spelled-row .row-is) ∙ sym (eqb-true x (e .key) same), List·Memᴰ·head refl)
     by-cases false same found = absurd (false≢true found)
 
 pub hook-names :
-    {rows : ℕ → Row} {n : ℕ} {ss : List Step} {u : Tree} {q : Step} → Hook-told rows n ss u (such q)
+    {rows : ℕ → Row} {n : ℕ} {ss : List Step} {u : Tree} {q : Step} → HookRow rows n ss u (such q)
     → (q .at ∈ numbers (chained ss none)) × (q .at < n) × (link (rows (q .at)) (q .turn) ≡ numberAt u)
-hook-names (hook-told there in-use names) = (there, in-use, names)
+hook-names (hook-row there in-use names) = (there, in-use, names)
 
--- the first row of the tree after an erase is row 0
+-- the root of the tree after an erase is row 0
 pub popped-first : {ss us : List Step} → Same-places ss us → (u : Tree) → numberAt (chained ss u) ≡ 0 → numberAt (chained us none) ≡ 0
 unfolding chained
 popped-first no-place u root = refl
@@ -207,7 +207,7 @@ unfolding numbers
 root-in none s there = absurd (false≢true there)
 root-in (row i e l r) s there = List·Memᴰ·head refl
 
--- other row numbers, the same entries
+-- other row numbers change neither the entries of a tree nor whether it is intact
 pub renamed-intact : (σ : ℕ → ℕ) (t : Tree) → intact (renamed σ t) ≡ intact t
 renamed-intact σ t = sym (intact-unnumbered (renamed σ t)) ∙ ap intact (unnumbered-renamed σ t) ∙ intact-unnumbered t
 

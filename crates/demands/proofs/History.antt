@@ -1,4 +1,4 @@
--- Demand 3 over histories: each call's rows by `rows-exact`, on the table that the calls before it left by `demand2`.
+-- Demand 3 over histories: `rows-exact` gives each call's rows, and `demand2` the table that the calls before it left.
 use Prim.Native.Nat.{ℕ}
 use mathlib.Core.Path.{_≡_, refl, sym, subst, _∙_}
 use mathlib.Core.List.{List}
@@ -13,7 +13,7 @@ use Rattle.demands.specs.History.{ReportsAs, History, HistoryFromEmpty, 
 use Rattle.demands.proofs.RowsRead.{rows-exact, rows-alike}
 use Rattle.demands.proofs.Demand2.{throughout, sequences-from-empty, empty-holds}
 
--- `rows-exact` of a call with a buffer of its own, where the table has room for `room` words
+-- `rows-exact` for a call with the buffer lent with it, if the table has room for `room` words
 module _ (room : ℕ) (a : Asked) (s : State) (k : Kept) (same-room : capacity (s .table) ≡ room) (H : HoldsKept s k) where
   pub reports-as : ReportsAs after room a s k
   reports-as =

@@ -11,7 +11,7 @@ use lib.ListN.{length, replicate, length-append, length-replicate}
 use borrow.Author.Tests.{le-ltb, lt-leb, eqb-false, ne-eqb}
 use Rattle.ordered.specs.Such.{if_then_else_, first-such, isThere}
 use Rattle.ordered.specs.Dictionary.{Entry, Increasing, none-increasing, one-increasing, lookup}
-use Rattle.ordered.specs.Said.{_∈_}
+use Rattle.ordered.specs.Source004.{_∈_}
 use Rattle.ordered.specs.Word.{right}
 use Rattle.ordered.specs.Tree.{treeOf}
 use Rattle.ordered.specs.Way.{way, rows, following}
@@ -58,10 +58,10 @@ top-in (suc m) p = List·Memᴰ·tail (rw (top-step m p) at (top-in m (p * 2 + 1
 top-there : (m p : ℕ) → isThere (lookup (top m p) (entriesFor (chain m p))) ≡ true
 top-there m p = lookup-whether (top m p) (entriesFor (chain m p)) .1 (rw (words-for (chain m p)) (top-in m p))
 
-pub right-width : (W : ℕ) → 1 ≤ W → W ≤ 32 → wrong-width W ≡ false
+right-width : (W : ℕ) → 1 ≤ W → W ≤ 32 → wrong-width W ≡ false
 right-width W some fits = rw (ne-eqb W 0 (λ e. omega arith), le-ltb 32 W fits)
 
--- the calls that make a set lead to a table that holds it, and there a call that is not refused reads the rows of its ways
+-- The calls that make a set lead to a table that holds it. On that table a call that is not refused reads the rows of its ways.
 module _ (W : ℕ) (some : 1 ≤ W) (fits : W ≤ 32) (S : List ℕ) (set : SetOf W S) where
   read-once : (c : Call) → ((room space : ℕ) → refusedOver c W (entriesFor S) room space ≡ false)
       → ReadOnce after rows-read W S c (rowsOver c W (entriesFor S))
@@ -96,7 +96,7 @@ module _ (n : ℕ) where
   one-less : 1 < greatest n
   one-less = omega (arith, pow-pos n)
 
-  -- in every table that holds a forked chain with its greatest word in the last row
+  -- the moving count of `del` 1 on every table that holds a forked chain with its greatest word in the last row
   fork-moved :
       (h : Header) (table buffer : List ℕ) → Holding h table (entriesFor forked) → h .width ≡ suc (suc n) → rowAt table (pred (h .count)) .entry .key ≡ greatest n
       → after (Del 1) h table buffer .reply .moved ≡ suc (suc n) + 1
@@ -111,7 +111,7 @@ module _ (n : ℕ) where
       ne-eqb hole (pred (h .count)) (λ same. omega (arith, one-less, ap (λ j. rowAt table j .entry .key) same)) in
       rows-exact (Del 1) h table buffer (entriesFor forked) (H .right-header) (H .holds) .moving-count ∙ rw (small, goes, last, width, fork-tree n) (greatest-rows n)
 
-  -- as it is after `new` and an `add` of each word
+  -- the same after `new` and an `add` of each word: then the greatest word is in the last row
   fork-reads : suc (suc n) ≤ 32 → ReadOnce after moving-count (suc (suc n)) forked (Del 1) (suc (suc n) + 1)
   unfolding forked-chain
   fork-reads fits s room =
@@ -163,7 +163,7 @@ reached-by-calls W some fits =
         → ReadOnce after rows-read W (parted-chain W) c (rowsOver c W (entriesFor (parted-chain W)))
     on-parted three = read-once W some fits (parted-chain W) (reached-beyond W three .a-set)
 
--- increasing words from `low` up to n
+-- an increasing list of words from `low` up to but not including n is no longer than n − low
 increasing-few : (low n : ℕ) {xs : List ℕ} → Increasing xs → ((x : ℕ) → x ∈ xs → low ≤ x) → ((x : ℕ) → x ∈ xs → x < n) → length xs ≤ n - low
 increasing-few low n none-increasing from below = omega arith
 increasing-few low n (one-increasing {x} a h) from below =
@@ -174,7 +174,7 @@ increasing-few low n (one-increasing {x} a h) from below =
       increasing-few (suc x) n h (λ y there. above-less a there) (λ y there. below y (List·Memᴰ·tail there)),
     )
 
--- with words of one bit a set has two words at most, and a move takes three rows
+-- a set of one-bit words has at most two words, and a move needs three rows
 module _ (k : ℕ) (h : Header) (table buffer : List ℕ) (S : List Entry) (H : Holding h table S) (narrow : h .width < 2) where
   few-rows : h .count ≤ 2
   few-rows =
@@ -211,7 +211,7 @@ roomy-capacity : (n : ℕ) → n ≤ 65535 → capacity (roomy n .table) ≡ n
 unfolding roomy capacity
 roomy-capacity n few = rw length-replicate (omega arith)
 
--- a count that is reported in a table that holds a set is no more than any bound
+-- a count that is reported on a table that holds a set is at most any bound
 module _ {W m : ℕ} {S : List ℕ} (count : Reply → ℕ) (call : ℕ → Call) (k : ℕ) (few : length S ≤ 65535) (read : ReadOnce after count W S (call k) m)
   where
     no-less : (n : ℕ) → Bounds after count call W n → m ≤ n

@@ -1,4 +1,4 @@
--- The line program writes what the dictionary says: each line by `answers-as` and `rows-exact`, on the table that the lines before it left.
+-- The line program writes what the dictionary answers: each line by `answers-as` and `rows-exact`, on the table that the lines before it left.
 use Prim.Native.Nat.{ℕ, suc, _*_}
 use mathlib.Core.Path.{_≡_, refl, sym, ap, ap₂, subst, _∙_}
 use mathlib.Core.Logic.{_⊎_, inl, inr}
@@ -43,7 +43,7 @@ use Rattle.demands.proofs.History.{reports-as}
 abbrev between : State → Between
 between s = record { header = s .header; table = s .table }
 
--- "header W 0": no set yet; or a table that holds what the dictionary keeps
+-- there is no set yet ("header W 0"), or the table holds what the dictionary keeps
 abbrev Standing : State → Kept → Type 0
 Standing s k = ((s .header ≡ fresh 0) × (k .width ≡ 0)) ⊎ HoldsKept (between s) k
 
@@ -52,7 +52,7 @@ record Serving (s : State) (k : Kept) : Type 0 where
   room : capacity (s .table) ≡ 4096
   standing : Standing s k
 
--- a line is answered by what the dictionary says to it
+-- a line is answered as the dictionary does
 record Dictated (line : Line) (s : State) (k : Kept) : Type 0 where
   says : answer s line .fields ≡ fields-to line s k
   listing : answer s line .listed ≡ listed-to line k
@@ -62,7 +62,7 @@ neither : (a b : Bool) → a || b ≡ false → a ≡ false
 neither true b h = h
 neither false b h = refl
 
--- every call that finds a set makes, lists or works on it
+-- if the width is not 0, there is a set
 set-found : (kind : Kind) (width : ℕ) → eqb width 0 ≡ false → finds-no-set kind width ≡ false
 set-found makes width some = refl
 set-found lists width some = some
@@ -70,9 +70,9 @@ set-found works width some = some
 
 -- "After a `list` with answer 0 come lines `key`, tab, word."
 list-listed : (k : Kept) (table : List ℕ) (left : After) (b : Bool)
-    → let said = if b then only 6 else only 0 in
-    Keeps said (if eqb (said .number) 0 || eqb (said .number) 7 then changed Call.List k else k) table left
-    → take (listedIn (left .reply)) (left .buffer) ≡ (if eqb (said .number) 0 then words (k .set) else [])
+    → let fields = if b then only 6 else only 0 in
+    Keeps fields (if eqb (fields .number) 0 || eqb (fields .number) 7 then changed Call.List k else k) table left
+    → take (listedIn (left .reply)) (left .buffer) ≡ (if eqb (fields .number) 0 then words (k .set) else [])
 unfolding changed
 list-listed k table left true keeps = rw (ap (λ x. x .number) (keeps .answer))
 list-listed k table left false keeps =
@@ -147,7 +147,7 @@ module _ (c : Call) (s : State) (k : Kept) (same-buffer : s .buffer ≡ k .buffe
             });
       }
 
--- a call that finds no set is answered 2, and leaves all as it was
+-- a call that lacks a set is answered 2, and leaves everything as it was
 no-set-left : (c : Call) (table buffer : List ℕ) → finds-no-set (kindOf c) 0 ≡ true
     → after c (fresh 0) table buffer ≡ record { reply = refused (fresh 0) WrongHeader; table = table; buffer = buffer }
 unfolding after wrong-header hasReply nextReply prevReply gapReply firstReply lastReply addOutcome delOutcome auditReply listReply listBuffer
@@ -177,7 +177,7 @@ unlisted Last = refl
 unlisted Audit = refl
 unlisted Call.List = refl
 
--- a call makes a set, or finds none
+-- if the width is 0, every call but `new` lacks a set
 new-or-none : (c : Call) → ((w : ℕ) × (c ≡ New w)) ⊎ (finds-no-set (kindOf c) 0 ≡ true)
 new-or-none (New w) = inl (w, refl)
 new-or-none (Add k serial) = inr refl

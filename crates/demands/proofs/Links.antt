@@ -1,4 +1,4 @@
--- No row is named by two links. So when the last row of a table moves, one link is to be set, and the tree changes in row numbers alone.
+-- No row is named by two links. So when the last row of a table moves, only one link has to be set, and the tree changes only in row numbers.
 -- Document 01: "If the hole is not row count−1, that last row is moved into it. [..] The order is: keys up, unlink, move, set the link."
 use Prim.Native.Nat.{ℕ, zero, suc, _+_, _*_, _≤_, _<_}
 use mathlib.Core.Path.{_≡_, refl, sym, ap, _∙_}
@@ -10,7 +10,7 @@ use lib.Dec.{eqb}
 use borrow.Author.Tests.{eqb-true, eqb-false, eq-eqb, ne-eqb}
 use Rattle.ordered.specs.Such.{if_then_else_}
 use Rattle.ordered.specs.Word.{Side, left, right, other, bitOf}
-use Rattle.ordered.specs.Said.{_∈_}
+use Rattle.ordered.specs.Source004.{_∈_}
 use Rattle.ordered.specs.Tree.{Tree, intact}
 use Rattle.ordered.proofs.Parts.{each-of-all}
 use Rattle.pretree.specs.declared.Row.{Row}
@@ -18,9 +18,9 @@ use Rattle.pretree.specs.Table.{link}
 use Rattle.pretree.specs.Unfold.{unfolded}
 use Rattle.pretree.proofs.Rows.{linking}
 use Rattle.demands.specs.Numbers.{numbers, often, renamed}
-use Rattle.demands.proofs.Unfolding.{no-link, along-link, key, hanging, Opened, opened, numbers-in-use, no-row-twice, relinked, Moved, unfolded-renamed}
+use Rattle.demands.proofs.Unfolding.{no-link, along-link, key, part-shown, Opened, opened, numbers-in-use, no-row-twice, relinked, Moved, unfolded-renamed}
 
--- whether a link names row x
+-- 1 if a link names row x, else 0
 abbrev names : ℕ → ℕ → ℕ
 names x zero = 0
 names x (suc j) = if eqb x (suc j) then 1 else 0
@@ -55,12 +55,12 @@ module _ (rows : ℕ → Row) (n x : ℕ) where
 
   row-named :
       (m path low i : ℕ) → Opened rows n m path low i
-      → ((s : Side) → often x (numbers (hanging rows n m path i s)) ≡ names x (link (rows i) s) + sum naming (numbers (hanging rows n m path i s)))
+      → ((s : Side) → often x (numbers (part-shown rows n m path i s)) ≡ names x (link (rows i) s) + sum naming (numbers (part-shown rows n m path i s)))
       → often x (numbers (unfolded rows n m path low i)) ≡ (if eqb x i then 1 else 0) + sum naming (numbers (unfolded rows n m path low i))
   unfolding numbers often
   row-named m path low i o parts = rw (o .shows, often-append, sum-append) (omega (arith, parts left, parts right))
 
-  -- a row stands in a tree as often as it is named there, and the root once more
+  -- a row is in a tree as often as it is named there, and the root once more
   named :
       (m path low i : ℕ) → intact (unfolded rows n m path low i) ≡ true
       → often x (numbers (unfolded rows n m path low i)) ≡ (if eqb x i then 1 else 0) + sum naming (numbers (unfolded rows n m path low i))
@@ -95,7 +95,7 @@ module _
     few : sum (naming rows n x) (numbers (unfolded rows n m path low i)) ≤ 1
     few = omega (arith, named rows n x m path low i h, no-row-twice rows n m path low i h x)
 
-    pub one-row-names :
+    one-row-names :
         (j k : ℕ) → j ∈ numbers (unfolded rows n m path low i) → k ∈ numbers (unfolded rows n m path low i)
         → (s t : Side) → link (rows j) s ≡ x → link (rows k) t ≡ x → j ≡ k
     one-row-names j k j-in k-in s t e e′ = by-cases (eqb j k) refl
@@ -112,15 +112,15 @@ module _
               naming-by rows n x is-row k t e′,
             ))
 
-    pub one-side-names : (j : ℕ) → j ∈ numbers (unfolded rows n m path low i) → (s : Side) → link (rows j) s ≡ x → link (rows j) (other s) ≡ x → ⊥
+    one-side-names : (j : ℕ) → j ∈ numbers (unfolded rows n m path low i) → (s : Side) → link (rows j) s ≡ x → link (rows j) (other s) ≡ x → ⊥
     one-side-names j j-in left e e′ = omega (arith, few, sum-of-one (naming rows n x) j-in, naming-twice rows n x is-row j e e′)
     one-side-names j j-in right e e′ = omega (arith, few, sum-of-one (naming rows n x) j-in, naming-twice rows n x is-row j e′ e)
 
--- the row numbers after the last row has moved into the hole
+-- the number of row j, after the last row has moved into the hole
 unfoldable pub moved-into : ℕ → ℕ → ℕ → ℕ
 moved-into hole last j = if eqb j last then hole else j
 
--- the rows of a tree after "move, set the link": the last row stands in the hole, and the link that named it names the hole
+-- the rows of a tree after "move, set the link": the last row is in the hole, and the link that named it names the hole
 pub record LastMoved (rows rows′ : ℕ → Row) (hole last parent : ℕ) (s : Side) (t : Tree) : Type 0 where
   pub hole-earlier : hole < last
   pub hole-no-root : hole ≡ 0 → ⊥
@@ -155,7 +155,7 @@ module _ (hole last : ℕ) where
   link-moved r left e h = rw (e, goes, stays (r .right) h)
   link-moved r right e h = rw (e, goes, stays (r .left) h)
 
--- the move changes row numbers alone, and takes one row out of use
+-- the move changes only row numbers, and takes one row out of use
 module _
     (rows rows′ : ℕ → Row) (hole last parent : ℕ) (s : Side) (m path low i : ℕ) (h : intact (unfolded rows (suc last) m path low i) ≡ true)
     (c : LastMoved rows rows′ hole last parent s (unfolded rows (suc last) m path low i))

@@ -1,5 +1,5 @@
--- What the dictionary keeps after `new` and an `add` of each word of a set, in increasing order: that set. So the calls lead to a table that
--- holds it, and its last row has the greatest word.
+-- After `new` and an `add` of each word of a set, in increasing order, the dictionary keeps that set. So the calls lead to a table that holds
+-- it. Its last row has the greatest word.
 use Prim.Native.Nat.{ℕ, suc, pred, _^_, _≤_, _<_}
 use mathlib.Core.Path.{_≡_, refl, sym, ap, subst, _∙_}
 use mathlib.Core.Bool.{false}
@@ -9,7 +9,7 @@ use lib.Dec.{leb, eqb}
 use lib.ListN.{length, length-append}
 use borrow.Author.Tests.{lt-leb, ne-eqb}
 use Rattle.ordered.specs.Dictionary.{Entry, words, Increasing, insert}
-use Rattle.ordered.specs.Said.{_∈_}
+use Rattle.ordered.specs.Source004.{_∈_}
 use Rattle.ordered.proofs.Lists.{increasing-parts}
 use Rattle.ordered.proofs.Parts.{none-all, insert-between}
 use Rattle.pretree.specs.Table.{capacity, rowAt}
@@ -32,12 +32,12 @@ use Rattle.demands.proofs.Demand2.{empty-holds, sequences}
 abbrev pub keeping : ℕ → List Entry → Kept
 keeping W S = record { width = W; set = S; buffer = [] }
 
--- the entries for some words
+-- the words and the length of `entriesFor`
 pub words-for : (xs : List ℕ) → words (entriesFor xs) ≡ xs
 words-for [] = refl
 words-for (x ∷ xs) = ap (λ ys. x ∷ ys) (words-for xs)
 
-pub length-for : (xs : List ℕ) → length (entriesFor xs) ≡ length xs
+length-for : (xs : List ℕ) → length (entriesFor xs) ≡ length xs
 length-for [] = refl
 length-for (x ∷ xs) = ap suc (length-for xs)
 
@@ -45,7 +45,7 @@ pub append-for : (xs ys : List ℕ) → entriesFor (xs ++ ys) ≡ entriesFor xs 
 append-for [] ys = refl
 append-for (x ∷ xs) ys = ap (λ es. entryFor x 0 ∷ es) (append-for xs ys)
 
--- a word that is greater than all the others, for which there is room
+-- an `add` of a word that is greater than all others, if there is room
 module _
     (W room x : ℕ) (S : List Entry) (narrow : x < 2 ^ W) (greatest : (y : ℕ) → y ∈ words S → y < x) (few : length S < room)
   where
@@ -56,11 +56,11 @@ module _
     unfolding insert
     put-last = ap (insert new) (sym (append-nil S)) ∙ insert-between new S [] [] (all-words S greatest) none-all
 
-    pub add-keeps : kept-after (Add x 0) room (keeping W S) ≡ keeping W (S ++ (new ∷ []))
+    add-keeps : kept-after (Add x 0) room (keeping W S) ≡ keeping W (S ++ (new ∷ []))
     unfolding kept-after expected changed
     add-keeps = rw (lt-leb (2 ^ W) x narrow, greatest-absent x S greatest, ne-eqb (length S) room (λ same. omega arith), put-last)
 
-pub adds-keep :
+adds-keep :
     (W room : ℕ) (S xs : List ℕ) → Increasing (S ++ xs) → ((x : ℕ) → x ∈ S ++ xs → x < 2 ^ W) → length (S ++ xs) ≤ room
     → kept-at-end (adds xs) room (keeping W (entriesFor S)) ≡ keeping W (entriesFor (S ++ xs))
 unfolding kept-at-end adds
@@ -75,7 +75,7 @@ adds-keep W room S (x ∷ xs) rising below few =
     ap (kept-at-end (adds xs) room) one ∙ adds-keep W room (S ++ (x ∷ [])) xs (rw same rising) (rw same below) (rw same few)
     ∙ ap (λ ys. keeping W (entriesFor ys)) same
 
--- `new` leaves an empty set, whatever was there
+-- `new` leaves an empty set, whatever was there before
 new-empties : (W : ℕ) (s : State) → wrong-width W ≡ false → state-after after (asked (New W)) s ≡ empty-state W (newTable (s .table) W)
 unfolding after newReply
 new-empties W s right = rw right
@@ -103,7 +103,7 @@ module _ (W : ℕ) (S : List ℕ) (s : State) (right : wrong-width W ≡ false) 
       adds-keep W (capacity (empty .table)) [] S (set .increasing) (set .below) (omega (arith, room-after-new)) in
       rw as-added (subst (HoldsKept added) all (all-added .at-end))
 
-  pub same-room : capacity (end-state after (making W S) s .table) ≡ capacity (s .table)
+  same-room : capacity (end-state after (making W S) s .table) ≡ capacity (s .table)
   same-room = rw as-added (same-capacity (added .table) (empty .table) (all-added .same-length) ∙ room-after-new)
 
 adds-both : (S xs : List ℕ) (s : State) → end-state after (adds (S ++ xs)) s ≡ end-state after (adds xs) (end-state after (adds S) s)
@@ -115,7 +115,7 @@ adds-both (x ∷ S) xs s = adds-both S xs (state-after after (asked (Add x 0)) s
 abbrev pub last-key : State → ℕ
 last-key s = rowAt (s .table) (pred (s .header .count)) .entry .key
 
--- the words are added in increasing order, so the last row has the greatest
+-- the words are added in increasing order, so the last row has the greatest word
 module _ (W : ℕ) (S : List ℕ) (x : ℕ) (s : State) (right : wrong-width W ≡ false) (set : SetOf W (S ++ (x ∷ [])))
     (room : length (S ++ (x ∷ [])) ≤ capacity (s .table))
   where

@@ -1,5 +1,5 @@
--- Document 01's "rows met from row 0 in the order row, left part, right part" are those of the tree that is shown, where it shows no damage;
--- and it shows none where the rows that are met are as document 01 asks of a sound table.
+-- Document 01's "rows met from row 0 in the order row, left part, right part" are the rows of the tree that a table shows, if it shows no
+-- damage. It shows none if the rows that are met are as document 01 asks of a sound table.
 use Prim.Native.Nat.{ℕ, zero, suc, _+_, _*_, _-_, _/_, _^_, _≤_, _<_}
 use mathlib.Core.Path.{_≡_, refl, ap, ap₂, _∙_}
 use mathlib.Core.Bool.{Bool, true, false}
@@ -20,7 +20,7 @@ use Rattle.pretree.specs.Table.{link}
 use Rattle.pretree.specs.Unfold.{ends-there, unfolded}
 use Rattle.pretree.specs.Sound.{Met, met-by, met, times, keysOf, Each, none-met, one-met, InPlace, SoundRows}
 use Rattle.demands.specs.Numbers.{numbers, often}
-use Rattle.demands.proofs.Unfolding.{no-link, along-link, by-link, key, hanging, NoDamage, intact-row, Opened, opened}
+use Rattle.demands.proofs.Unfolding.{no-link, along-link, by-link, key, part-shown, NoDamage, intact-row, Opened, opened}
 
 each-map : {P Q : Met → Type 0} {xs : List Met} → ((x : Met) → P x → Q x) → Each P xs → Each Q xs
 each-map f none-met = none-met
@@ -49,7 +49,7 @@ keys-append (x ∷ xs) ys = ap (λ ks. x .key ∷ ks) (keys-append xs ys)
 abbrev the-row : ℕ → ℕ → ℕ → ℕ → Met
 the-row d path i k = record { at = i; key = k; depth = d; path = path }
 
--- the rows of a tree, as they are met from depth d
+-- the rows of a tree in the order in which they are met, from depth d
 unfoldable pub met-in : ℕ → ℕ → Tree → List Met
 met-in d path none = []
 met-in d path (row i e l r) =
@@ -120,12 +120,12 @@ module _ (rows : ℕ → Row) where
   module _ (n : ℕ) where
     shown-row-met :
         (levels m d path low i : ℕ) → Opened rows n m path low i
-        → ((s : Side) → met-from levels d path i s ≡ met-in (suc d) (path * 2 + bitOf s) (hanging rows n m path i s))
+        → ((s : Side) → met-from levels d path i s ≡ met-in (suc d) (path * 2 + bitOf s) (part-shown rows n m path i s))
         → met rows (suc levels) d path i ≡ met-in d path (unfolded rows n m path low i)
     unfolding met met-in
     shown-row-met levels m d path low i o parts = rw (o .shows) (ap₂ (λ xs ys. the-row d path i (key rows i) ∷ (xs ++ ys)) (parts left) (parts right))
 
-    -- what is met where no damage is shown; one level more than there are bits left is looked at
+    -- what is met if no damage is shown. It looks one level deeper than there are bits left.
     pub met-shown :
         (m d path low i : ℕ) → intact (unfolded rows n m path low i) ≡ true
         → met rows (suc (suc m)) d path i ≡ met-in d path (unfolded rows n m path low i)
@@ -141,13 +141,13 @@ module _ (rows : ℕ → Row) where
         (unfolded rows n m (path * 2 + bitOf s) low′) refl
         (λ k. met-shown m (suc d) (path * 2 + bitOf s) low′ (suc k)) (link (rows i) s) (o .parts s))
 
--- a row that is met as in a sound table, in a part of which the keys are `low` or more
+-- a row that meets the conditions of a sound table, in a part whose keys are `low` or more
 pub record InOrder (n W low : ℕ) (x : Met) : Type 0 where
   pub in-use : x .at < n
   pub not-below : low ≤ x .key
   pub placed : InPlace W x
 
--- and all the rows of such a part
+-- all rows of such a part
 pub record Orderly (n W low : ℕ) (xs : List Met) : Type 0 where
   pub each : Each (InOrder n W low) xs
   pub rising : Increasing (keysOf xs)
@@ -191,7 +191,7 @@ module _ (rows : ℕ → Row) (n W : ℕ) where
       let left-over : W - d ≡ m = omega arith in
       record { in-use = r .in-use; key-fits = record { not-below = r .not-below; on-path = rw left-over at (r .placed .bits) }; links-end = ends }
 
-  -- where the rows that are met are as in a sound table, no damage is shown
+  -- if the rows that are met are as in a sound table, no damage is shown
   pub met-intact : (m d path low i : ℕ) → d + m ≡ W → Orderly n W low (met rows (suc (suc m)) d path i) → intact (unfolded rows n m path low i) ≡ true
   unfolding intact
   met-intact zero d path low i whole o =
@@ -205,7 +205,7 @@ module _ (rows : ℕ → Row) (n W : ℕ) where
       (λ s. by-link (λ j. Orderly n W low′ (met-by (met rows (suc (suc m)) (suc d) (path * 2 + bitOf s)) j)) (unfolded rows n m (path * 2 + bitOf s) low′)
       (λ k. met-intact m (suc d) (path * 2 + bitOf s) low′ (suc k) (omega arith)) (link (rows i) s) (r .1 s))
 
--- a row that is met is met once at least
+-- a row that is met is met at least once
 met-at-least-once : (xs : List Met) → Each (λ x. 1 ≤ times (x .at) xs) xs
 unfolding times
 met-at-least-once [] = none-met

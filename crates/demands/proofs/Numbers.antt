@@ -1,5 +1,5 @@
--- The laws of row numbers, for "the rows 0 to count−1, each once". Numbers below n of which none stands twice are at most n, and where they
--- are n, each number below n stands once; and a tree keeps all but its numbers when it is given other ones, or none.
+-- Laws of row numbers, for "the rows 0 to count−1, each once". A list of different numbers below n has at most n elements. If it has n, each
+-- number below n is in it once. A tree with other row numbers, or without any, is otherwise the same.
 use Prim.Native.Nat.{ℕ, zero, suc, _+_, _≤_, _<_}
 use mathlib.Core.Path.{_≡_, refl, ap, ap₂, _∙_}
 use mathlib.Core.Bool.{Bool, true, false, _&&_}
@@ -16,7 +16,7 @@ use Rattle.ordered.specs.Tree.{Tree, none, row, damaged, entries, size, intact,
 use Rattle.ordered.proofs.Parts.{All, none-all, one-all}
 use Rattle.demands.specs.Numbers.{numbers, often, renamed}
 
--- how often the numbers below n stand in a list, all together
+-- how many elements of a list are below n
 abbrev total : ℕ → List ℕ → ℕ
 total zero xs = 0
 total (suc n) xs = often n xs + total n xs
@@ -55,7 +55,7 @@ unfolding often
 never n none-all i h = refl
 never n (one-all {x} k ks) i h = rw (ne-eqb i x (λ e. omega arith), never n ks i h)
 
--- no number stands twice
+-- no number is in the list twice
 module _ (xs : List ℕ) (no-more : (i : ℕ) → often i xs ≤ 1) where
   total-few : (n : ℕ) → total n xs ≤ n
   total-few zero = omega arith
@@ -81,7 +81,7 @@ module _ (xs : List ℕ) (no-more : (i : ℕ) → often i xs ≤ 1) where
         by-cases true e = total-full n (omega (arith, total-length n small)) i (ltb-true i n e)
         by-cases false e = never n small i (ltb-false i n e)
 
--- and if each number below n stands once, then the numbers are n
+-- if each number below n is in the list once, and no other, the list has n elements
 pub number-of-all : (n : ℕ) {xs : List ℕ} → All (λ x. x < n) xs → ((i : ℕ) → often i xs ≡ once-below n i) → length xs ≡ n
 number-of-all n {xs} small once = omega (arith, total-length n small, all-of-them n (λ i h. once i ∙ one n i h))
   where
@@ -89,7 +89,7 @@ number-of-all n {xs} small once = omega (arith, total-length n small, all-of-the
     all-of-them zero h = refl
     all-of-them (suc m) h = omega (arith, h m (omega arith), all-of-them m (λ i k. h i (omega arith)))
 
--- numbers to which rising keys belong are different
+-- numbers whose keys increase are different
 module _ (key : ℕ → ℕ) where
   not-again : (x : ℕ) (xs : List ℕ) → Above (key x) (map key xs) → often x xs ≡ 0
   unfolding often
@@ -111,7 +111,7 @@ numbers-length none = refl
 numbers-length (row i e l r) = ap suc (length-append (numbers l) (numbers r) ∙ ap₂ _+_ (numbers-length l) (numbers-length r))
 numbers-length damaged = refl
 
--- what a tree without numbers keeps
+-- what stays the same if the row numbers are removed
 pub intact-unnumbered : (t : Tree) → intact (unnumbered t) ≡ intact t
 unfolding intact unnumbered
 intact-unnumbered none = refl
@@ -124,7 +124,7 @@ entries-unnumbered none = refl
 entries-unnumbered (row i e l r) = rw (entries-unnumbered l, entries-unnumbered r)
 entries-unnumbered damaged = refl
 
--- what a tree with other numbers keeps
+-- what stays the same if the row numbers are changed
 module _ (σ : ℕ → ℕ) where
   pub unnumbered-renamed : (t : Tree) → unnumbered (renamed σ t) ≡ unnumbered t
   unfolding unnumbered renamed
@@ -132,7 +132,7 @@ module _ (σ : ℕ → ℕ) where
   unnumbered-renamed (row i e l r) = ap₂ (row 0 e) (unnumbered-renamed l) (unnumbered-renamed r)
   unnumbered-renamed damaged = refl
 
-  pub numbers-renamed : (t : Tree) → numbers (renamed σ t) ≡ map σ (numbers t)
+  numbers-renamed : (t : Tree) → numbers (renamed σ t) ≡ map σ (numbers t)
   unfolding numbers renamed
   numbers-renamed none = refl
   numbers-renamed (row i e l r) = rw (numbers-renamed l, numbers-renamed r, map-append)

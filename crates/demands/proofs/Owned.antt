@@ -1,6 +1,5 @@
--- What a call writes is in the rows that it may own: "Words past the last whole row, or past that limit, are never changed."
--- Every row that a table shows is in use, "0 to count−1", also where there is damage beside it, and `add` and `del` write no other row, but
--- for the new row of `add`.
+-- A call writes only rows: "Words past the last whole row, or past that limit, are never changed." Every row that a table shows is in use
+-- ("0 to count−1"), also in a damaged table. `add` and `del` write only such rows, and `add` also writes its new row.
 use Prim.Native.Nat.{ℕ, zero, suc, _+_, _*_, _-_, _≤_, _<_, pred}
 use mathlib.Core.Path.{_≡_, refl, ap, _∙_}
 use mathlib.Core.Bool.{Bool, true, false, not, _&&_, _||_, false≢true}
@@ -17,6 +16,7 @@ use Rattle.ordered.specs.Tree.{Tree, none, row, damaged, part, listing}
 use Rattle.ordered.specs.Way.{Step, Way, Rule, way, rows, joined, following, pushing, down, broken}
 use Rattle.ordered.specs.Reading.{wordIn, root-row}
 use Rattle.ordered.specs.Change.{Take, pushed, raised, ends-at, numberAt, entryAt, above-end, Adding, adding-by, adding, Erasing, erasing-by, erasing}
+use Rattle.ordered.proofs.Lists.{by-test}
 use Rattle.ordered.proofs.Parts.{All, none-all, one-all, all-append, If-such, last-such-one}
 use Rattle.ordered.proofs.Ways.{along}
 use Rattle.ordered.proofs.OneTree.{listing-length}
@@ -37,7 +37,7 @@ use Rattle.demands.specs.Refusals.{SameFrom}
 use Rattle.demands.proofs.ShownRows.{EachRow, shown-each, way-each}
 use Rattle.demands.proofs.Tested.{test-says}
 
--- every row of the tree is below c
+-- every row number in the tree is below c
 abbrev InUse : ℕ → Tree → Type 0
 InUse c = EachRow (λ i e. i < c)
 
@@ -106,7 +106,7 @@ module _ (c : ℕ) where
           let vs = way-in-use pushing (w .bits) (w .end) (us .1) in
           (pushed-in-use new (vs .0), joined-in-use w push (us .0) (vs .0))
 
-  -- the rows that an erase writes
+  -- the rows that an erase writes are below c
   record Erased (e : Erasing) : Type 0 where
     some : 0 < c
     takes : Taken (e .takes)
@@ -145,34 +145,34 @@ module _ (n : ℕ) where
   same-twice x y =
       record { same-length = y .same-length ∙ x .same-length; same-words = λ i past. y .same-words i past ∙ x .same-words i past }
 
--- the writes to a row below c change no word past the first c rows
+-- a write to a row below c changes no word past the first c rows
 module _ (c : ℕ) where
-  abbrev Kept : List ℕ → List ℕ → Type 0
-  Kept = SameFrom (rowWords * c)
+  abbrev KeptPast : List ℕ → List ℕ → Type 0
+  KeptPast = SameFrom (rowWords * c)
 
-  entry-kept : (i : ℕ) (e : Entry) (table : List ℕ) → i < c → Kept table (withEntry i e table)
+  entry-kept : (i : ℕ) (e : Entry) (table : List ℕ) → i < c → KeptPast table (withEntry i e table)
   entry-kept i e table owned =
       record { same-length = entry-length i e table; same-words = λ p past. entry-past c p past i owned table e }
 
-  link-kept : (i : ℕ) (s : Side) (j : ℕ) (table : List ℕ) → i < c → Kept table (withLink i s j table)
+  link-kept : (i : ℕ) (s : Side) (j : ℕ) (table : List ℕ) → i < c → KeptPast table (withLink i s j table)
   link-kept i s j table owned =
       record { same-length = link-length i s j table; same-words = λ p past. link-past c p past i owned table s j }
 
-  row-kept : (i : ℕ) (r : Row) (table : List ℕ) → i < c → Kept table (withRow i r table)
+  row-kept : (i : ℕ) (r : Row) (table : List ℕ) → i < c → KeptPast table (withRow i r table)
   row-kept i r table owned =
       record { same-length = row-length i r table; same-words = λ p past. row-past c p past i owned table r }
 
-  taking-kept : {ts : List Take} (table : List ℕ) → Taken c ts → Kept table (taking ts table)
+  taking-kept : {ts : List Take} (table : List ℕ) → Taken c ts → KeptPast table (taking ts table)
   unfolding taking
   taking-kept table none-all = same-all (rowWords * c)
   taking-kept table (one-all {x} u us) =
       same-twice (rowWords * c) (entry-kept (x .at) (x .entry) table u) (taking-kept (withEntry (x .at) (x .entry) table) us)
 
-  hooking-kept : (p : Perhaps Step) (i : ℕ) (table : List ℕ) → Hooked c p → Kept table (hooking p i table)
+  hooking-kept : (p : Perhaps Step) (i : ℕ) (table : List ℕ) → Hooked c p → KeptPast table (hooking p i table)
   hooking-kept no-such i table u = same-all (rowWords * c)
   hooking-kept (such s) i table u = link-kept (s .at) (s .turn) i table u
 
-  grown-kept : (count : ℕ) (a : Adding) (table : List ℕ) → count < c → Taken c (a .takes) → Hooked c (a .hook) → Kept table (grown count a table)
+  grown-kept : (count : ℕ) (a : Adding) (table : List ℕ) → count < c → Taken c (a .takes) → Hooked c (a .hook) → KeptPast table (grown count a table)
   unfolding grown
   grown-kept count a table room takes hook =
       let taken : List ℕ = taking (a .takes) table in
@@ -181,7 +181,7 @@ module _ (c : ℕ) where
       (row-kept count (leafRow (a .new-entry)) (hooking (a .hook) count taken) room))
 
   shrunk-kept : (last : ℕ) (e : Erasing) (second : Way) (moves : Bool) (table : List ℕ)
-      → last < c → Erased c e → Hooked c (above-end second) → Kept table (shrunk last e second moves table)
+      → last < c → Erased c e → Hooked c (above-end second) → KeptPast table (shrunk last e second moves table)
   unfolding shrunk moving
   shrunk-kept last e second moves table owned erased hook =
       same-twice (rowWords * c) (taking-kept table (erased .takes))
@@ -200,22 +200,17 @@ module _ (c : ℕ) where
       moved : List ℕ
       moved = hooking (above-end second) (e .hole) into-hole
 
-      by-cases : (b : Bool) → Kept unlinked (if b then moved else unlinked)
+      by-cases : (b : Bool) → KeptPast unlinked (if b then moved else unlinked)
       by-cases true =
           same-twice (rowWords * c) (row-kept (e .hole) (rowAt unlinked last) unlinked (erased .hole))
           (hooking-kept (above-end second) (e .hole) into-hole hook)
       by-cases false = same-all (rowWords * c)
 
--- what a test says may be used on its side
-pub by-test : {X : Type 0} (P : X → Type 0) (t : Bool) {x y : X} → (t ≡ true → P x) → (t ≡ false → P y) → P (if t then x else y)
-by-test P true if-so if-not = if-so refl
-by-test P false if-so if-not = if-not refl
+-- an outcome that changes no word past the rows
+abbrev RestKept : List ℕ → Outcome → Type 0
+RestKept table o = KeptPast (capacity table) table (o .table)
 
--- an outcome in which no word past the rows is another
-abbrev Keeps : List ℕ → Outcome → Type 0
-Keeps table o = Kept (capacity table) table (o .table)
-
--- where a call doesn't write, it leaves the header and the table
+-- P holds of every outcome with the same header and the same table
 abbrev Unchanged : Header → List ℕ → (Outcome → Type 0) → Type 0
 Unchanged h table P = (r : Reply) → r .header ≡ h → P (record { reply = r; table = table })
 
@@ -223,7 +218,7 @@ module _ (h : Header) (table : List ℕ) (new : Entry) where
   abbrev a : Adding
   a = adding (h .width) new (shown h table)
 
-  -- what `add` leaves where it writes
+  -- what `add` leaves if it adds a row
   abbrev pub added : Outcome
   added =
       record {
@@ -231,20 +226,20 @@ module _ (h : Header) (table : List ℕ) (new : Entry) where
         table = grown (h .count) a table;
       }
 
-  -- no row from number c on is another then, where the rows in use, with the new one, are below c
-  pub added-kept : (c : ℕ) → h .count < c → Kept c table (added .table)
+  -- then no row from number c on changes, if the rows in use and the new one are below c
+  pub added-kept : (c : ℕ) → h .count < c → KeptPast c table (added .table)
   added-kept c room =
       let used = adding-in-use c (h .width) new (shown h table) (shown-in-use c h table (omega arith)) in
       grown-kept c (h .count) a table room (used .0) (used .1)
 
-  -- and where the word is there
+  -- what `add` leaves if the word is there
   abbrev pub stored : Outcome
   stored = record { reply = answered h AlreadyThere (rows (a .rows-read)); table = taking (a .takes) table }
 
-  pub stored-kept : (c : ℕ) → h .count ≤ c → Kept c table (stored .table)
+  pub stored-kept : (c : ℕ) → h .count ≤ c → KeptPast c table (stored .table)
   stored-kept c fits = taking-kept c table (adding-in-use c (h .width) new (shown h table) (shown-in-use c h table fits) .0)
 
-  -- what holds where `add` doesn't write, and of the two outcomes above, holds of every outcome
+  -- what holds if `add` writes nothing, and of the two outcomes above, holds of every outcome
   pub add-outcome : (P : Outcome → Type 0) → Unchanged h table P
       → (h .count ≤ capacity table → a .present ≡ true → P stored) → (h .count < capacity table → P added) → P (addOutcome h table new)
   unfolding addOutcome
@@ -256,9 +251,9 @@ module _ (h : Header) (table : List ℕ) (new : Entry) where
       (λ absent. by-test P (eqb (h .count) (capacity table)) (λ full. unchanged (refused h Full) refl)
       (λ room. written (omega (arith, right-header h table right .has-room, eqb-false (h .count) (capacity table) room)))))))
 
-  pub add-kept : Keeps table (addOutcome h table new)
+  pub add-kept : RestKept table (addOutcome h table new)
   add-kept =
-      add-outcome (Keeps table) (λ r same. same-all (rowWords * capacity table)) (λ room there. stored-kept (capacity table) room)
+      add-outcome (RestKept table) (λ r same. same-all (rowWords * capacity table)) (λ room there. stored-kept (capacity table) room)
       (added-kept (capacity table))
 
 module _ (h : Header) (table : List ℕ) (k : ℕ) where
@@ -274,7 +269,7 @@ module _ (h : Header) (table : List ℕ) (k : ℕ) where
   abbrev second : Way
   second = secondWay h table
 
-  -- what `del` leaves where it writes
+  -- what `del` leaves if it removes a row
   abbrev pub removed : Outcome
   removed =
       record {
@@ -288,7 +283,7 @@ module _ (h : Header) (table : List ℕ) (k : ℕ) where
         table = shrunk last e second moves table;
       }
 
-  pub removed-kept : (c : ℕ) → h .count ≤ c → e .present ≡ true → Kept c table (removed .table)
+  pub removed-kept : (c : ℕ) → h .count ≤ c → e .present ≡ true → KeptPast c table (removed .table)
   unfolding secondWay
   removed-kept c fits present =
       let some = erasing-in-use (h .count) (h .width) k (shown h table) (shown-in-use (h .count) h table (omega arith)) present .some in
@@ -309,10 +304,10 @@ module _ (h : Header) (table : List ℕ) (k : ℕ) where
       (λ there. by-test P (moves && (broken second || astray h table second)) (λ damage. unchanged (refused h Damage) refl)
       (λ led. written (right-header h table right .has-room) (not-false (e .present) there))))))
 
-  pub del-kept : Keeps table (delOutcome h table k)
-  del-kept = del-outcome (Keeps table) (λ r same. same-all (rowWords * capacity table)) (removed-kept (capacity table))
+  pub del-kept : RestKept table (delOutcome h table k)
+  del-kept = del-outcome (RestKept table) (λ r same. same-all (rowWords * capacity table)) (removed-kept (capacity table))
 
--- a front of n words written anew
+-- overwriting the first n words changes no word from number n on
 front-kept : (n : ℕ) (front words : List ℕ) → length front ≡ n → n ≤ length words → SameFrom n words (front ++ drop n words)
 front-kept n front words long room =
     record {

@@ -1,4 +1,4 @@
--- The bounds of demand 3 are reached at every width: the proofs of specs/Reached.antt, by the trees of its three sets.
+-- The bounds of demand 3 are reached at every width: the proofs for specs/Reached.antt, over the trees of its three sets.
 use Prim.Native.Nat.{ℕ, zero, suc, _+_, _*_, _-_, _^_, _≤_, _<_}
 use mathlib.Core.Path.{_≡_, refl, sym, ap, _∙_}
 use mathlib.Core.Bool.{Bool, true, false, not}
@@ -15,7 +15,7 @@ use Rattle.ordered.specs.Word.{Side, left, right, side}
 use Rattle.ordered.specs.Tree.{Tree, none, row, exists, entries, listing, unnumbered, treeOf}
 use Rattle.ordered.specs.Proper.{Fitting, Proper}
 use Rattle.ordered.specs.Way.{Way, Step, Rule, to, ending, passing, way, rows, joined, following, passing-equal, pushing, down, staying}
-use Rattle.ordered.specs.Reading.{Found, rowsOf, end-if, right-left-aside, next-by, has as has-over, next as next-over, prev as prev-over, first as first-over, last as last-over}
+use Rattle.ordered.specs.Reading.{Found, rowsOf, end-if, skipped-right, next-by, has as has-over, next as next-over, prev as prev-over, first as first-over, last as last-over}
 use Rattle.ordered.specs.Change.{ends-at, adding-by, adding, erasing-by, erasing}
 use Rattle.ordered.proofs.Bits.{on-root-path, whole-path, side-of-part}
 use Rattle.ordered.proofs.OneTree.{keys-fit, keys-rise, one-tree}
@@ -48,7 +48,7 @@ unfolding ladder
 ladder-exists zero p = refl
 ladder-exists (suc m) p = refl
 
--- a path with one bit 1 more, and then zeros
+-- a path with one more bit, a 1, and then zeros
 one-more : (m p : ℕ) → (p * 2 + 1) * 2 ^ m ≡ p * 2 ^ suc m + 2 ^ m
 one-more m p = add-mul (p * 2) 1 (2 ^ m) ∙ rw (mul-assoc p 2 (2 ^ m), ← pow-succ' 2 m, one-mul (2 ^ m))
 
@@ -73,14 +73,14 @@ top m p = p * 2 ^ m + (2 ^ m - 1)
 pub top-step : (m p : ℕ) → top m (p * 2 + 1) ≡ top (suc m) p
 top-step m p = omega (arith, one-more m p, pow-pos m)
 
--- a way that goes down a chain to its last word, which it reads at depth W
+-- a way down a chain to its last word, which it reads at depth W
 record Rightmost (m k : ℕ) (w : Way) : Type 0 where
   steps : length (w .passed) ≡ m
   bits-left : w .bits ≡ 0
   pub ends : w .end ≡ row 0 (entryFor k 0) none none
-  nothing-aside : last-such right-left-aside (w .passed) ≡ no-such
+  nothing-aside : last-such skipped-right (w .passed) ≡ no-such
 
--- a rule that turns right at each row over the word k goes down so
+-- a rule that turns right at each row above the word k
 abbrev Turns-right : ℕ → Rule → Type 0
 Turns-right k f =
     (m p : ℕ) → top m (p * 2 + 1) ≡ k → f m (entryFor (p * 2 ^ suc m) 0) none (ladder m (p * 2 + 1)) ≡ to right
@@ -121,7 +121,7 @@ rightmost-rows : {m k : ℕ} {w : Way} → Rightmost m k w → rows w ≡ m + 1
 unfolding rows
 rightmost-rows r = rw (r .ends) (omega arith)
 
--- the PreTree of the entries of a proper tree without row numbers is that tree, and their words are those of a set
+-- If a proper tree without row numbers lists the words of S, it is the PreTree of S, and S is a set.
 module _ (W : ℕ) (t : Tree) (S : List ℕ) (proper : Proper W 0 0 t) (lists : entries t ≡ entriesFor S) where
   its-tree : unnumbered t ≡ t → treeOf W (entriesFor S) ≡ t
   its-tree bare = ap (treeOf W) (sym lists) ∙ sym (one-tree W 0 0 t proper) ∙ bare
@@ -145,12 +145,12 @@ module _ (W : ℕ) where
   down-chain : (f : Rule) → Turns-right (2 ^ W - 1) f → Rightmost W (2 ^ W - 1) (way f W (ladder W 0))
   down-chain f turns = rightmost (2 ^ W - 1) f turns W 0 (rw (zero-mul (2 ^ W)) (omega arith))
 
--- from the last row, at depth W, no way goes on
+-- no way goes on from the last row, at depth W
 joined-at-end : {m k : ℕ} {w : Way} (f : Rule) → Rightmost m k w → rows (joined w (way f (w .bits) (w .end))) ≡ m + 1
 unfolding joined way rows
 joined-at-end f r = rw (r .bits-left, r .ends, append-nil) (omega arith)
 
--- so `add` and `del` of the last word read the chain and no more, whether it counts as found or not
+-- so `add` and `del` of the last word read only the chain, whether the word is found or not
 module _ {m k : ℕ} {w : Way} (r : Rightmost m k w) where
   add-ends : (e : Entry) (b : Bool)
       → let push : Way = way pushing (w .bits) (w .end) in rows (adding-by e w push (joined w push) b .rows-read) ≡ m + 1
@@ -244,7 +244,7 @@ module _ (n : ℕ) where
   abbrev low-step : Step
   low-step = record { at = 0; entry = entryFor 1 0; turn = right; left-part = none; right-part = ladder n 1; below = n }
 
-  -- the right child's word is on the right, all the others but 0 are on the left
+  -- 2^(n+1) goes right at the root, and the greatest word below it goes left
   right-side : side (suc n) (2 ^ suc n) ≡ right
   right-side = side-of-part (suc n) (2 ^ suc n) 0 right (rw one-mul at (shl-shr 1 (suc n)))
 
@@ -296,7 +296,7 @@ module _ (n : ℕ) where
       let w : Way = passing (root-step left) (passing low-step chain-way) in
       let r : Rightmost n last-word chain-way = rightmost last-word (passing-equal last-word) (passing-right last-word) n 1 last-left in
       let none-greater : end-if (ltb last-word) w ≡ no-such = rw (r .ends, le-ltb last-word last-word (omega arith)) in
-      let deepest : last-such right-left-aside (w .passed) ≡ such (root-step left) = rw (r .nothing-aside) in
+      let deepest : last-such skipped-right (w .passed) ≡ such (root-step left) = rw (r .nothing-aside) in
       rw next-way
       (child-read w (root-step left) none-greater deepest
       ∙ omega (arith, rows-passing (root-step left) (passing low-step chain-way), rows-passing low-step chain-way, rightmost-rows r, lone-row))
@@ -374,13 +374,13 @@ module _ (n : ℕ) where
   unfolding erasing way following down
   own-hole i j r = rw one-left
 
-  -- so the hole that it leaves, in any table, is its own row
+  -- so `del` 1 makes the row of 1 the hole, in any table
   pub hole-of-one : {rows : ℕ → Row} {c : ℕ} {t : Tree} → Spelled rows c t → unnumbered t ≡ fork → rows (erasing (suc (suc n)) 1 t .hole) .entry .key ≡ 1
   unfolding unnumbered
   hole-of-one (a-row {i} {e} {r} s (a-row {i = j} {e = f} u no-row no-row) v) same =
       let root : e ≡ entryFor 0 0 = cc in
       let one : f ≡ entryFor 1 0 = cc in
-      rw (root, one, own-hole i j r) (ap (λ x. x .entry .key) (u .as-told) ∙ ap (λ x. x .key) one)
+      rw (root, one, own-hole i j r) (ap (λ x. x .entry .key) (u .row-is) ∙ ap (λ x. x .key) one)
   hole-of-one no-row same = let never : _≡_ {A = ℕ} 0 1 = cc in absurd (omega arith)
   hole-of-one (a-row s no-row v) same = let never : _≡_ {A = ℕ} 0 1 = cc in absurd (omega arith)
   hole-of-one (a-row s (a-row u no-row (a-row x y z)) v) same = let never : _≡_ {A = ℕ} 0 1 = cc in absurd (omega arith)

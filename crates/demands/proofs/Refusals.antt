@@ -1,5 +1,5 @@
--- Demand 1: the proofs of specs/Refusals.antt. The tests of each call are gone through once, from the first down ("Order: 9, 1, 2, 3, 4, then
--- 7 or 8, then 5. For `list`: 2, 4, 6."), and all that the demand says of its number is read off what is seen on the way.
+-- Demand 1: the proofs for specs/Refusals.antt. For each call one proof goes through the tests in their order ("Order: 9, 1, 2, 3, 4, then 7 or
+-- 8, then 5. For `list`: 2, 4, 6.") and records the result as a `Seen`. All clauses of the demand follow from it.
 use Prim.Native.Nat.{ℕ, suc, _*_, _^_, _<_, pred}
 use mathlib.Core.Path.{_≡_, refl, sym, _∙_}
 use mathlib.Core.Logic.{_↔_, Iff·symm, _⊎_, inl, inr}
@@ -10,7 +10,7 @@ use native.Mathlib.Nat.{add-zero}
 use lib.Dec.{ltb, eqb}
 use lib.ListN.{length, drop, replicate}
 use Rattle.ordered.specs.Such.{if_then_else_, Perhaps, no-such, such}
-use Rattle.ordered.specs.Said.{Whether}
+use Rattle.ordered.specs.Source004.{Whether}
 use Rattle.ordered.specs.Tree.{listing}
 use Rattle.ordered.specs.Way.{Way, way, rows, broken, following}
 use Rattle.ordered.specs.Reading.{Reading, rowsOf, brokenIn}
@@ -59,8 +59,8 @@ unfolding FirstGiven
 none-first (c ∷ cs) n not-any (inl a) = not-any .0 (a .0)
 none-first (c ∷ cs) n not-any (inr a) = none-first cs n (not-any .1) (a .1)
 
--- What is seen of a call that makes these checks: the first that is given, or an answer where none is.
--- `Seven` is what an answer 7 leaves.
+-- The result of a call that makes these checks: a refusal by the first check whose condition holds, or an answer if none holds.
+-- `Seven` is what is claimed of an answer 7.
 data Seen (Seven : Type 0) (cs : List Check) (h : Header) (table buffer : List ℕ) (ways : List Way) (a : After) : Type 0 where
   refusing :
       Refusal (numberOf (a .reply .answer)) → FirstGiven cs (numberOf (a .reply .answer)) → Untouched h table buffer a → a .reply .rows ≡ 0
@@ -71,20 +71,20 @@ data Seen (Seven : Type 0) (cs : List Check) (h : Header) (table buffer : List �
       → (numberOf (a .reply .answer) ≡ 8 → Untouched h table buffer a) → (numberOf (a .reply .answer) ≡ 7 → Seven)
       → Seen Seven cs h table buffer ways a
 
--- what only replies leaves all else
+-- an outcome that is only a reply leaves everything as it was
 untouched : {h : Header} {table buffer : List ℕ} {a : Answer} {n : ℕ}
     → Untouched h table buffer (record { reply = answered h a n; table = table; buffer = buffer })
 untouched = record { same-header = refl; same-table = refl; same-buffer = refl; none-moved = refl }
 
 module _ {Seven : Type 0} {h : Header} {table buffer : List ℕ} {ways : List Way} where
-  -- the first check is given
+  -- the first check refuses
   refuse :
       {cs : List Check} {P : Type 0} (a : Answer) → Refusal (numberOf a) → P
       → Seen Seven (numberOf a when P ∷ cs) h table buffer ways (record { reply = refused h a; table = table; buffer = buffer })
   unfolding FirstGiven
   refuse a number there = refusing number (inl (there, refl)) untouched refl
 
-  -- the first check is not given, and the others are made
+  -- the first check passes, and the others follow
   pass : {cs : List Check} {n : ℕ} {P : Type 0} {a : After} → ¬ P → Seen Seven cs h table buffer ways a → Seen Seven (n when P ∷ cs) h table buffer ways a
   unfolding FirstGiven
   pass not-there (refusing number first same counts) = refusing number (inr (not-there, first)) same counts
@@ -102,7 +102,7 @@ module _ {Seven : Type 0} {h : Header} {table buffer : List ℕ} {ways : List Wa
       answering (λ r. omega arith) tt (elim [ inl seven ↦ absurd (omega arith) | inr eight ↦ absurd (omega arith) ])
       (λ eight. absurd (omega arith)) (λ seven. absurd (omega arith))
 
--- a test between two outcomes, by which a refusal is given in its order
+-- P holds of the outcome that a test for C picks, if it holds of x when C holds, and of y when it does not
 judge : {X : Type 0} (P : X → Type 0) {C : Type 0} {t : Bool} {x y : X} → Whether C t → (C → P x) → (¬ C → P y) → P (if t then x else y)
 judge P {C} {t} {x} {y} w if-so if-not = by-cases t w
   where
@@ -110,7 +110,7 @@ judge P {C} {t} {x} {y} w if-so if-not = by-cases t w
     by-cases true w = if-so (w .0 refl)
     by-cases false w = if-not (fails w)
 
--- a test of what does not hold fails
+-- if a condition does not hold, its test fails
 untested : {C : Type 0} {t : Bool} → Whether C t → ¬ C → t ≡ false
 untested {C} {t} w not-so = by-cases t w
   where
@@ -130,8 +130,7 @@ too-wide-tested : (h : Header) (k : ℕ) → Whether (Too-wide h k) (too-wide h 
 unfolding too-wide
 too-wide-tested h k = at-most-tested (2 ^ h .width) k
 
--- The calls that only read, where the damage on their ways is `Damage-there`. Those that take a word make a check of it between the header's and
--- the way's.
+-- The calls that only read; `Damage-there` is the damage on their ways. A call that takes a word checks it after the header and before the way.
 module _ (Seven : Type 0) {A : Type 0} (h : Header) (table buffer : List ℕ) (say : A → Answer) (r : Reading A) (zero-number : (x : A) → numberOf (say x) ≡ 0)
     {Damage-there : Type 0} (tested : Whether Damage-there (brokenIn (r .ways))) where
   abbrev Seen-reading : List Check → Reply → Type 0
@@ -171,7 +170,7 @@ module _ (Seven : Type 0) {A : Type 0} (h : Header) (table buffer : List ℕ) (s
       (judge (Seen-reading (3 when Too-wide h k ∷ of-way)) (too-wide-tested h k) (refuse WordTooWide (omega arith))
       (λ narrow. pass narrow way-seen)))
 
--- what is seen of a call
+-- `Seen` for a call of our program
 abbrev Seen-of : Call → Header → List ℕ → List ℕ → Type 0
 Seen-of c h table buffer =
     Seen (SerialStored c h table buffer (after c h table buffer)) (checks c h table buffer) h table buffer (waysOf c h table) (after c h table buffer)
@@ -198,7 +197,7 @@ new-seen W h table buffer = by-cases (wrong-width W) (wrong-width-tested W)
 whether-sound : (h : Header) (table : List ℕ) → Whether (Sound h table) (isSound h table)
 whether-sound h table = Iff·symm (sound-is h table .the-test)
 
--- what `add` and `del` test for damage
+-- `add` and `del` test for their damage
 add-damage : (k serial : ℕ) (h : Header) (table : List ℕ) → Whether (DamageOn (Add k serial) h table) (broken (adding (h .width) (entryFor k serial) (shown h table) .rows-read))
 unfolding damageTest waysOf brokenIn
 add-damage k serial h table = rw or-false at (damage-tested (Add k serial) h table)
@@ -217,7 +216,7 @@ one-take : (k serial : ℕ) (h : Header) (table : List ℕ) → ends-at k (way (
 unfolding adding taking
 one-take k serial h table ends = rw ends
 
--- where the word is there, its row takes the new serial
+-- if the word is there, its row takes the new serial
 serial-stored : (k serial : ℕ) (h : Header) (table buffer : List ℕ) → wrong-header h table ≡ false → too-wide h k ≡ false
     → let a : Adding = adding (h .width) (entryFor k serial) (shown h table) in
     broken (a .rows-read) ≡ false → a .present ≡ true
@@ -416,7 +415,7 @@ seen Last h table buffer =
 seen Audit h table buffer = audit-seen h table buffer
 seen Call.List h table buffer = list-seen h table buffer
 
--- the numbers of a call of which this is seen
+-- the clauses of the demand that follow from `Seen`
 module _ (c : Call) (h : Header) (table buffer : List ℕ) where
   exactly : Seen-of c h table buffer → (n : ℕ) → Refusal n → (numberAfter after c h table buffer ≡ n) ↔ FirstGiven (checks c h table buffer) n
   exactly (refusing number first same counts) n refusal =
@@ -444,7 +443,7 @@ module _ (c : Call) (h : Header) (table buffer : List ℕ) where
   stored-seven (refusing number first same counts) seven = absurd (omega arith)
   stored-seven (answering number not-any true-counts same stores) seven = stores seven
 
--- what a call writes is in its rows, or in the listing
+-- a call writes only its rows, or the listing
 module _ (h : Header) (table buffer : List ℕ) where
   abbrev Kept : List ℕ → List ℕ → Type 0
   Kept table′ buffer′ = SameFrom (rowWords * capacity table) table table′ × SameFrom (h .count) buffer buffer′

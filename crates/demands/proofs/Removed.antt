@@ -1,4 +1,4 @@
--- Demand 2 of `del`: its writes do to the table what the erase does to the tree, and the move of the last row changes row numbers alone.
+-- Demand 2 for `del`: its writes do to the table what the erase does to the tree, and the move of the last row changes only row numbers.
 -- Document 01: "The order is: keys up, unlink, move, set the link."
 use Prim.Native.Nat.{ℕ, suc, pred, _+_, _*_, _^_, _<_, _≤_}
 use mathlib.Core.Path.{_≡_, refl, sym, ap, ap₂, _∙_}
@@ -12,17 +12,17 @@ use borrow.Author.Tests.{leb-false, eqb-true, eqb-false, lt-ltb, le-ltb, eq-eqb}
 use Rattle.ordered.specs.Such.{if_then_else_, Perhaps, no-such, such, last-such, anything, isThere}
 use Rattle.ordered.specs.Word.{left}
 use Rattle.ordered.specs.Dictionary.{Entry, Increasing, delete, lookup}
-use Rattle.ordered.specs.Said.{_∈_}
+use Rattle.ordered.specs.Source004.{_∈_}
 use Rattle.ordered.specs.Tree.{Tree, none, exists, entries, listing, intact}
 use Rattle.ordered.specs.Proper.{Fitting, Proper}
 use Rattle.ordered.specs.Way.{Step, Way, way, rows, broken, joined, following, down}
 use Rattle.ordered.specs.Change.{Erasing, erasing, erasing-by, ends-at, above-end, raised, numberAt, entryAt}
-use Rattle.ordered.specs.Grown.{linked as chained, lifted, popped-tree, shrunk as shrunk-tree}
+use Rattle.ordered.specs.Grown.{chained, lifted, popped-tree, tree-after-del}
 use Rattle.ordered.proofs.Bits.{on-root-path}
 use Rattle.ordered.proofs.OneTree.{root-fits, proper-intact}
 use Rattle.ordered.proofs.Dictionary.{lookup-whether}
-use Rattle.ordered.proofs.Ways.{linked-again, unbroken}
-use Rattle.ordered.proofs.Moves.{taken-by, lifted-takes, linked-append}
+use Rattle.ordered.proofs.Ways.{chained-again, unbroken}
+use Rattle.ordered.proofs.PushPop.{taken-by, lifted-takes, chained-append}
 use Rattle.ordered.proofs.Grown.{shrunk-proper, shrunk-entries}
 use Rattle.ordered.proofs.Answers.{ends-there, erasing-present}
 use Rattle.ordered.proofs.Unbroken.{erasing-unbroken}
@@ -39,15 +39,15 @@ use Rattle.pretree.proofs.Rows.{HasRow, linking, has-row, rows-fit, row-written
 use Rattle.pretree.specs.declared.Call.the-variants.{Del}
 use Rattle.pretree.specs.Call.{After, after}
 use Rattle.demands.specs.Numbers.{numbers, often, renamed}
-use Rattle.demands.specs.Expected.{Said, Kept, only, expected, changed, kept-after}
+use Rattle.demands.specs.Expected.{AnswerFields, Kept, only, expected, changed, kept-after}
 use Rattle.demands.specs.Demand2.{Holding, Keeps, keptBy, KeepsDictionary}
 use Rattle.demands.proofs.Links.{moved-into, LastMoved, last-row-moved}
 use Rattle.demands.proofs.SoundIs.{held-by-entries}
 use Rattle.demands.proofs.Answered.{undamaged, holds-entries, proper, narrow, nothing-changed}
 use Rattle.demands.proofs.Spelled.{Spelled, no-row, spelled-shows, spelled-frame}
-use Rattle.demands.proofs.Rewritten.{Once, in-often, often-in, Same-places, same-places, lifted-places, joined-places, same-numbers, none-part, entries-taken, end-hooked, unchanged-taken, taking-both, chained-often, end-spelled, Hook-told, no-hook, hook-is}
+use Rattle.demands.proofs.Rewritten.{Once, in-often, often-in, Same-places, same-places, lifted-places, joined-places, same-numbers, none-part, entries-taken, end-hooked, unchanged-taken, taking-both, chained-often, end-spelled, HookRow, no-hook, hook-is}
 use Rattle.demands.proofs.Added.{shown-spelled, root-first, rows-once, right-width, has-room, shown-so}
-use Rattle.demands.proofs.Erasures.{Leaf, Leaf-told, keyOf-row, spelled-keys, delete-length, end-proper, leaf-end, ends-row, in-map, one-key, taking-link, hooking-link, leaf-told, end-is, hook-names, popped-first, listed-there, root-in, renamed-intact, renamed-entries, root-stays, shown-root, one-more, no-entries}
+use Rattle.demands.proofs.Erasures.{Leaf, LeafRow, keyOf-row, spelled-keys, delete-length, end-proper, leaf-end, ends-row, in-map, one-key, taking-link, hooking-link, leaf-row, end-is, hook-names, popped-first, listed-there, root-in, renamed-intact, renamed-entries, root-stays, shown-root, one-more, no-entries}
 
 module _ (h : Header) (table : List ℕ) (S : List Entry) (H : Holding h table S) (k : ℕ) where
   abbrev t : Tree
@@ -84,11 +84,11 @@ module _ (h : Header) (table : List ℕ) (S : List Entry) (H : Holding h table S
   places = joined-places (same-places (w .passed)) (lifted-places (stretch .passed) (entryAt (stretch .end)))
 
   way-whole : chained (w .passed) (w .end) ≡ t
-  way-whole = linked-again (following k) (h .width) t
+  way-whole = chained-again (following k) (h .width) t
 
   before-whole : chained before (stretch .end) ≡ t
   before-whole =
-      linked-append (w .passed) (stretch .passed) (stretch .end) ∙ ap (chained (w .passed)) (linked-again (down left) (w .bits) (w .end)) ∙ way-whole
+      chained-append (w .passed) (stretch .passed) (stretch .end) ∙ ap (chained (w .passed)) (chained-again (down left) (w .bits) (w .end)) ∙ way-whole
 
   taken : taking (raised (stretch .passed) (entryAt (stretch .end))) table ≡ taking (taken-by later) table
   taken =
@@ -100,7 +100,7 @@ module _ (h : Header) (table : List ℕ) (S : List Entry) (H : Holding h table S
   fit : rowWords * h .count ≤ length table
   fit = rows-fit (h .count) table (has-room H)
 
-  -- keys up, and the hole unlinked
+  -- the table after "keys up, unlink"
   abbrev raised-table : List ℕ
   raised-table = taking (taken-by later) table
 
@@ -127,35 +127,35 @@ module _ (h : Header) (table : List ℕ) (S : List Entry) (H : Holding h table S
       (λ j below. refl)
 
   module _ (present : ends-at k w ≡ true) where
-    tree-after : shrunk-tree (h .width) k t ≡ new-tree
-    unfolding shrunk-tree popped-tree
-    tree-after = rw present (sym (linked-append (w .passed) (lifted (stretch .passed) (entryAt (stretch .end))) none))
+    tree-after : tree-after-del (h .width) k t ≡ new-tree
+    unfolding tree-after-del popped-tree
+    tree-after = rw present (sym (chained-append (w .passed) (lifted (stretch .passed) (entryAt (stretch .end))) none))
 
     end-leaf : Leaf (stretch .end)
     end-leaf =
         let p = end-proper (following k) (h .width) t 0 0 (proper H) in
         leaf-end (w .bits) (w .end) (p .0) (p .1) (p .2) (ends-row k (w .bits) (w .end) present)
 
-    hole-told : Leaf-told (rowAt table) (h .count) (stretch .end)
-    hole-told = leaf-told (stretch .end) end-leaf (end-spelled (rowAt table) (h .count) before (stretch .end) (rw before-whole (shown-spelled H)))
+    hole-row : LeafRow (rowAt table) (h .count) (stretch .end)
+    hole-row = leaf-row (stretch .end) end-leaf (end-spelled (rowAt table) (h .count) before (stretch .end) (rw before-whole (shown-spelled H)))
 
     one-row : h .count ≡ suc last
-    one-row = one-more (h .count) (omega (arith, hole-told .in-use))
+    one-row = one-more (h .count) (omega (arith, hole-row .in-use))
 
     numbers-same : numbers (chained later (stretch .end)) ≡ numbers t
     numbers-same = same-numbers places (stretch .end) ∙ ap numbers before-whole
 
     hole-out : hole ∈ numbers new-tree → ⊥
-    hole-out there = omega (arith, once-later hole, chained-often later (stretch .end) hole, in-often there, in-often (hole-told .inside))
+    hole-out there = omega (arith, once-later hole, chained-often later (stretch .end) hole, in-often there, in-often (hole-row .inside))
 
-    -- the hole is not the root, where rows are left
+    -- the hole is not row 0, if rows are left
     hole-later : (numberAt new-tree ≡ 0) × (exists new-tree ≡ true) → hole ≡ 0 → ⊥
     hole-later first e = hole-out (Memᴰ·cast (e ∙ sym (first .0)) (root-in new-tree unlinked-spelled (first .1)))
 
     still-there : (j : ℕ) → j ∈ numbers t → (j ≡ hole → ⊥) → j ∈ numbers new-tree
     still-there j there apart =
         often-in j (numbers new-tree)
-        (omega (arith, chained-often later (stretch .end) j, ap (often j) numbers-same, in-often there, hole-told .alone j apart))
+        (omega (arith, chained-often later (stretch .end) j, ap (often j) numbers-same, in-often there, hole-row .alone j apart))
 
     abbrev final : Bool → List ℕ
     final moves = withRow last cleared (if moves then moving hole last second unlinked else unlinked)
@@ -187,7 +187,7 @@ module _ (h : Header) (table : List ℕ) (S : List Entry) (H : Holding h table S
       abbrev Shows : List ℕ → Type 0
       Shows after = (intact (shown less after) ≡ true) × (entries (shown less after) ≡ delete k S)
 
-      -- the last word goes
+      -- `del` of the only word
       none-left : last ≡ 0 → (after : List ℕ) → Shows after
       unfolding shown intact entries
       none-left empty after = rw (eq-eqb last 0 empty) (refl, sym (no-entries (delete k S) (new-number ∙ empty)))
@@ -231,13 +231,13 @@ module _ (h : Header) (table : List ℕ) (S : List Entry) (H : Holding h table S
 
     second-whole : chained (second .passed) (second .end) ≡ t
     unfolding secondWay
-    second-whole = linked-again (following last-key) (h .width) t
+    second-whole = chained-again (following last-key) (h .width) t
 
     second-spelled : Spelled (rowAt table) (h .count) (chained (second .passed) (second .end))
     second-spelled = rw second-whole (shown-spelled H)
 
-    second-told : (rowAt table (numberAt (second .end)) .entry .key ≡ last-key) × (numberAt (second .end) ∈ numbers (second .end))
-    second-told =
+    second-row : (rowAt table (numberAt (second .end)) .entry .key ≡ last-key) × (numberAt (second .end) ∈ numbers (second .end))
+    second-row =
         end-is last-key (second .bits) (second .end) (end-spelled (rowAt table) (h .count) (second .passed) (second .end) second-spelled) second-finds
 
     second-often : (j : ℕ) → often j (numbers t) ≡ often j (numbers (chained (second .passed) none)) + often j (numbers (second .end))
@@ -247,8 +247,8 @@ module _ (h : Header) (table : List ℕ) (S : List Entry) (H : Holding h table S
     second-last =
         let rising : Increasing (listing t) = rw (holds-entries H) (H .holds .increasing) in
         one-key (keyOf-row (rowAt table) (h .count)) (numbers t) (rw keys-listed at rising)
-        (often-in (numberAt (second .end)) (numbers t) (omega (arith, second-often (numberAt (second .end)), in-often (second-told .1))))
-        last-in (second-told .0)
+        (often-in (numberAt (second .end)) (numbers t) (omega (arith, second-often (numberAt (second .end)), in-often (second-row .1))))
+        last-in (second-row .0)
 
     not-astray : astray h table second ≡ false
     unfolding astray
@@ -262,29 +262,29 @@ module _ (h : Header) (table : List ℕ) (S : List Entry) (H : Holding h table S
       some-left : last ≡ 0 → ⊥
       some-left e = omega arith
 
-      -- the row above the last one, and the side where it names it
+      -- p is the row above the last row, with the side of the link
       module _ (p : Step) (is : last-such anything (second .passed) ≡ such p) where
         abbrev parent : ℕ
         parent = p .at
 
-        told : (parent ∈ numbers (chained (second .passed) none)) × (parent < h .count) × (link (rowAt table parent) (p .turn) ≡ numberAt (second .end))
-        told = hook-names (rw is at (hook-is (rowAt table) (h .count) (second .passed) (second .end) second-spelled))
+        parent-link : (parent ∈ numbers (chained (second .passed) none)) × (parent < h .count) × (link (rowAt table parent) (p .turn) ≡ numberAt (second .end))
+        parent-link = hook-names (rw is at (hook-is (rowAt table) (h .count) (second .passed) (second .end) second-spelled))
 
         names-last : link (rowAt table parent) (p .turn) ≡ last
-        names-last = told .2 ∙ second-last
+        names-last = parent-link .2 ∙ second-last
 
         parent-in : parent ∈ numbers t
-        parent-in = often-in parent (numbers t) (omega (arith, second-often parent, in-often (told .0)))
+        parent-in = often-in parent (numbers t) (omega (arith, second-often parent, in-often (parent-link .0)))
 
         parent-other : parent ≡ last → ⊥
         parent-other e =
-            let inside : parent ∈ numbers (second .end) = Memᴰ·cast (e ∙ sym second-last) (second-told .1) in
-            omega (arith, second-often parent, rows-once H parent, in-often (told .0), in-often inside)
+            let inside : parent ∈ numbers (second .end) = Memᴰ·cast (e ∙ sym second-last) (second-row .1) in
+            omega (arith, second-often parent, rows-once H parent, in-often (parent-link .0), in-often inside)
 
         parent-kept : parent ≡ hole → ⊥
-        parent-kept e = some-left (sym names-last ∙ ap (λ j. link (rowAt table j) (p .turn)) e ∙ hole-told .no-links (p .turn))
+        parent-kept e = some-left (sym names-last ∙ ap (λ j. link (rowAt table j) (p .turn)) e ∙ hole-row .no-links (p .turn))
 
-        -- unlinking the hole leaves that link
+        -- unlinking the hole does not change that link
         other-hook : (q : Step) → last-such anything before ≡ such q → HasRow raised-table (q .at) × (q .at ≡ parent → q .turn ≡ p .turn → ⊥)
         other-hook q is-q =
             let whole : Spelled (rowAt table) (h .count) (chained before (stretch .end)) = rw before-whole (shown-spelled H) in
@@ -326,10 +326,10 @@ module _ (h : Header) (table : List ℕ) (S : List Entry) (H : Holding h table S
               moved =
                   row-elsewhere last relinked hole (λ e. omega arith) cleared
                   ∙ link-elsewhere parent filled hole (λ e. parent-kept (sym e)) (p .turn) hole
-                  ∙ row-written hole unlinked (has-row unlinked hole (h .count) (hole-told .in-use) (omega (arith, fit, unlinked-long))) (rowAt unlinked last);
+                  ∙ row-written hole unlinked (has-row unlinked hole (h .count) (hole-row .in-use) (omega (arith, fit, unlinked-long))) (rowAt unlinked last);
               link-set =
                   row-elsewhere last relinked parent parent-other cleared
-                  ∙ link-written parent filled (has-row filled parent (h .count) (told .1) (omega (arith, fit, long))) (p .turn) hole
+                  ∙ link-written parent filled (has-row filled parent (h .count) (parent-link .1) (omega (arith, fit, long))) (p .turn) hole
                   ∙ ap (linking (p .turn) hole) (row-elsewhere hole unlinked parent parent-kept (rowAt unlinked last));
               others-stay =
                   λ j inside no-last no-parent.
@@ -356,13 +356,13 @@ module _ (h : Header) (table : List ℕ) (S : List Entry) (H : Holding h table S
               ap entries so ∙ renamed-entries (moved-into hole last) new-tree ∙ new-entries small there,
             )
 
-      -- there is such a row, for the last row is not the root
+      -- there is a row above the last row, because the last row is not the root
       has-parent : (q : Perhaps Step) → last-such anything (second .passed) ≡ q → (p : Step) × (last-such anything (second .passed) ≡ such p)
       unfolding chained
       has-parent no-such is =
           absurd (some-left (sym second-last ∙ alone (rw is at (hook-is (rowAt table) (h .count) (second .passed) (second .end) second-spelled))))
         where
-          alone : Hook-told (rowAt table) (h .count) (second .passed) (second .end) no-such → numberAt (second .end) ≡ 0
+          alone : HookRow (rowAt table) (h .count) (second .passed) (second .end) no-such → numberAt (second .end) ≡ 0
           alone (no-hook empty) = sym (ap (λ ss. numberAt (chained ss (second .end))) empty) ∙ ap numberAt second-whole ∙ root-first H
       has-parent (such p) is = (p, is)
 
@@ -373,7 +373,7 @@ module _ (h : Header) (table : List ℕ) (S : List Entry) (H : Holding h table S
         by-cases true empty b same = none-left small there (eqb-true last 0 empty) (final (not b))
         by-cases false some true same = stays small there (eqb-false last 0 some) (eqb-true hole last same)
         by-cases false some false differ =
-            let earlier : hole < last = omega (arith, one-row, hole-told .in-use, eqb-false hole last differ) in
+            let earlier : hole < last = omega (arith, one-row, hole-row .in-use, eqb-false hole last differ) in
             let p = has-parent earlier (last-such anything (second .passed)) refl in
             moved-shows earlier (p .0) (p .1) small there
 
@@ -413,15 +413,15 @@ module _ (h : Header) (table : List ℕ) (S : List Entry) (H : Holding h table S
   present-so small =
       erasing-present (h .width) k 0 0 t (narrow h k small) (proper H) ∙ ap (λ es. isThere (lookup k es)) (holds-entries H)
 
-  -- a move takes three rows: the root, the hole and the last row
+  -- a move needs three rows: the root, the hole and the last row
   pub three-rows : leb (2 ^ h .width) k ≡ false → isThere (lookup k S) ≡ true → (e .hole ≡ last → ⊥) → 3 ≤ h .count
   three-rows small there apart =
       let present : ends-at k w ≡ true = sym present-is ∙ present-so small ∙ there in
       let differ : hole ≡ last → ⊥ = λ same. apart (hole-same present ∙ same) in
-      let some : last ≡ 0 → ⊥ = λ e. omega (arith, hole-told present .in-use, one-row present) in
+      let some : last ≡ 0 → ⊥ = λ e. omega (arith, hole-row present .in-use, one-row present) in
       omega (
         arith,
-        hole-told present .in-use,
+        hole-row present .in-use,
         one-row present,
         hole-later present (new-first present small there, new-there present small there some),
       )
@@ -461,17 +461,17 @@ module _ (h : Header) (table : List ℕ) (S : List Entry) (H : Holding h table S
   unfolding after expected kept-after changed numberOf keyOf serialOf
   keeps-del buffer = rw outcome-so (by-width (leb (2 ^ h .width) k) refl (e .present) (λ small. present-so small) bad (λ small there. never-bad (sym present-is ∙ present-so small ∙ there)))
     where
-      said : Bool → Bool → Said
-      said wide there = if wide then only 3 else if there then only 0 else only 8
+      fields : Bool → Bool → AnswerFields
+      fields wide there = if wide then only 3 else if there then only 0 else only 8
 
-      kept : Said → Kept
+      kept : AnswerFields → Kept
       kept answer = if eqb (answer .number) 0 || eqb (answer .number) 7 then record { width = h .width; set = delete k S; buffer = buffer } else keptBy h S buffer
 
       left-by : Outcome → After
       left-by o = record { reply = o .reply; table = o .table; buffer = buffer }
 
       by-lookup : (small : leb (2 ^ h .width) k ≡ false) (there : Bool) → isThere (lookup k S) ≡ there → (wrong : Bool) → (there ≡ true → wrong ≡ false)
-          → Keeps (said false there) (kept (said false there)) table (left-by (outcome false there wrong))
+          → Keeps (fields false there) (kept (fields false there)) table (left-by (outcome false there wrong))
       by-lookup small true is wrong so =
           let present : ends-at k w ≡ true = sym present-is ∙ present-so small ∙ is in
           rw (so refl) (record {
@@ -485,6 +485,6 @@ module _ (h : Header) (table : List ℕ) (S : List Entry) (H : Holding h table S
 
       by-width : (wide : Bool) → leb (2 ^ h .width) k ≡ wide → (there : Bool) → (leb (2 ^ h .width) k ≡ false → there ≡ isThere (lookup k S))
           → (wrong : Bool) → (leb (2 ^ h .width) k ≡ false → isThere (lookup k S) ≡ true → wrong ≡ false)
-          → Keeps (said wide (isThere (lookup k S))) (kept (said wide (isThere (lookup k S)))) table (left-by (outcome wide there wrong))
+          → Keeps (fields wide (isThere (lookup k S))) (kept (fields wide (isThere (lookup k S)))) table (left-by (outcome wide there wrong))
       by-width true small there so wrong never = nothing-changed h table buffer S H (refused h WordTooWide) (only 3) refl refl
       by-width false small there so wrong never = rw (so small) (by-lookup small (isThere (lookup k S)) refl wrong (never small))

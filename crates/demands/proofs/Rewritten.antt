@@ -1,5 +1,5 @@
--- What `add` and `del` write along a way: the rows of the way take other entries, and the last of them another link. Where the rows spelled
--- the tree before, they spell the way linked again with those entries and with another part at its end.
+-- What `add` and `del` write along a way: its rows take other entries, and its last row takes another link. If the rows of the table spelled the
+-- tree before, they then spell the way with the new entries, chained to the new part at its end.
 -- Document 01: "that row takes k and its old key is pushed down [..], taking each next row's place in turn"; "each row taking the key below".
 use Prim.Native.Nat.{ℕ, _+_, _*_, _≤_, _<_}
 use mathlib.Core.Path.{_≡_, refl, sym, ap, _∙_}
@@ -12,23 +12,23 @@ use lib.ListN.{length}
 use borrow.Author.Tests.{eqb-true, eq-eqb}
 use Rattle.ordered.specs.Such.{if_then_else_, Perhaps, no-such, such, first-of, last-such, anything}
 use Rattle.ordered.specs.Word.{Side, left, right, other}
-use Rattle.ordered.specs.Said.{_∈_}
+use Rattle.ordered.specs.Source004.{_∈_}
 use Rattle.ordered.specs.Dictionary.{Entry}
 use Rattle.ordered.specs.Tree.{Tree, none, part, exists}
 use Rattle.ordered.specs.Way.{Step}
 use Rattle.ordered.specs.Change.{numberAt}
-use Rattle.ordered.specs.Grown.{linking as turned, linked as chained, taking as with-entry, shifted, entry-below, lifted}
+use Rattle.ordered.specs.Grown.{linking as turned, chained, with-entry, shifted, entry-below, lifted}
 use Rattle.ordered.proofs.Parts.{All, none-all, one-all, If-such, last-such-one, first-of-such}
-use Rattle.ordered.proofs.Moves.{taken-by}
+use Rattle.ordered.proofs.PushPop.{taken-by}
 use Rattle.pretree.specs.declared.Row.{Row}
 use Rattle.pretree.specs.Table.{rowWords, rowAt, toCode, link, withEntry}
 use Rattle.pretree.specs.Add.{taking, hooking}
 use Rattle.pretree.proofs.Rows.{holding, linking, has-row, entry-written, entry-elsewhere, entry-length, link-written, link-elsewhere, own-entry}
 use Rattle.demands.specs.Numbers.{numbers, often}
 use Rattle.demands.proofs.Links.{often-append}
-use Rattle.demands.proofs.Spelled.{row-of, Part, Told, Spelled, a-row, spelled-frame}
+use Rattle.demands.proofs.Spelled.{row-of, Part, RowSpelled, Spelled, a-row, spelled-frame}
 
--- no row stands in a tree twice
+-- no row is in the tree twice
 abbrev pub Once : Tree → Type 0
 Once t = (j : ℕ) → often j (numbers t) ≤ 1
 
@@ -37,7 +37,7 @@ unfolding often
 in-often {j} (List·Memᴰ·head {x} e) = rw (eq-eqb j x e) (omega arith)
 in-often (List·Memᴰ·tail there) = omega (arith, in-often there)
 
--- how often a number stands in a row of a way: g is the part to which the way turns there
+-- how often a number is in the tree at a row of a way; g is the part to which the way turns there
 turned-often :
     (i : ℕ) (e : Entry) (s : Side) (l r g : Tree) (j : ℕ)
     → often j (numbers (turned i e s l r g)) ≡ (if eqb j i then 1 else 0) + (often j (numbers (part (other s) l r)) + often j (numbers g))
@@ -72,14 +72,14 @@ unfolding numbers
 on-in i e left l r g there = List·Memᴰ·tail (Memᴰ·append-left (numbers r) there)
 on-in i e right l r g there = List·Memᴰ·tail (Memᴰ·append-right (numbers l) there)
 
--- the row of such a row
+-- that row as a table holds it
 abbrev turned-row : Entry → Side → Tree → Tree → Tree → Row
 turned-row e left l r g = row-of e g r
 turned-row e right l r g = row-of e l g
 
 record Turned (rows : ℕ → Row) (n i : ℕ) (e : Entry) (s : Side) (l r g : Tree) : Type 0 where
   in-use : i < n
-  as-told : rows i ≡ turned-row e s l r g
+  row-is : rows i ≡ turned-row e s l r g
   aside-part : Part (part (other s) l r)
   on-part : Part g
   aside-spelled : Spelled rows n (part (other s) l r)
@@ -88,19 +88,19 @@ record Turned (rows : ℕ → Row) (n i : ℕ) (e : Entry) (s : Side) (l r g : T
 module _ {rows : ℕ → Row} {n : ℕ} (i : ℕ) (e : Entry) where
   opened-turn : (s : Side) (l r g : Tree) → Spelled rows n (turned i e s l r g) → Turned rows n i e s l r g
   opened-turn left l r g (a-row t u v) =
-      record { in-use = t .in-use; as-told = t .as-told; aside-part = t .named right; on-part = t .named left; aside-spelled = v; on-spelled = u }
+      record { in-use = t .in-use; row-is = t .row-is; aside-part = t .named right; on-part = t .named left; aside-spelled = v; on-spelled = u }
   opened-turn right l r g (a-row t u v) =
-      record { in-use = t .in-use; as-told = t .as-told; aside-part = t .named left; on-part = t .named right; aside-spelled = u; on-spelled = v }
+      record { in-use = t .in-use; row-is = t .row-is; aside-part = t .named left; on-part = t .named right; aside-spelled = u; on-spelled = v }
 
   closed-turn : (s : Side) (l r g : Tree) → Turned rows n i e s l r g → Spelled rows n (turned i e s l r g)
   closed-turn left l r g t =
-      let told : Told rows n i e g r =
-      record { in-use = t .in-use; as-told = t .as-told; named = elim [ left ↦ t .on-part | right ↦ t .aside-part ] } in
-      a-row told (t .on-spelled) (t .aside-spelled)
+      let spelled-row : RowSpelled rows n i e g r =
+      record { in-use = t .in-use; row-is = t .row-is; named = elim [ left ↦ t .on-part | right ↦ t .aside-part ] } in
+      a-row spelled-row (t .on-spelled) (t .aside-spelled)
   closed-turn right l r g t =
-      let told : Told rows n i e l g =
-      record { in-use = t .in-use; as-told = t .as-told; named = elim [ left ↦ t .aside-part | right ↦ t .on-part ] } in
-      a-row told (t .aside-spelled) (t .on-spelled)
+      let spelled-row : RowSpelled rows n i e l g =
+      record { in-use = t .in-use; row-is = t .row-is; named = elim [ left ↦ t .aside-part | right ↦ t .on-part ] } in
+      a-row spelled-row (t .aside-spelled) (t .on-spelled)
 
 reheld : (e e′ : Entry) (s : Side) (l r g g′ : Tree) → numberAt g′ ≡ numberAt g → holding e′ (turned-row e s l r g) ≡ turned-row e′ s l r g′
 reheld e e′ left l r g g′ same = rw same
@@ -144,7 +144,7 @@ same-symmetric : {ss us : List Step} → Same-places ss us → Same-places us ss
 same-symmetric no-place = no-place
 same-symmetric (one-place {s} {us} e p) = one-place {s = with-entry e s} (s .entry) (same-symmetric p)
 
--- the first row stays where it is
+-- the root keeps its number
 root-place : (i : ℕ) (e e′ : Entry) (s : Side) (l r g g′ : Tree) → (numberAt (turned i e′ s l r g′) ≡ numberAt (turned i e s l r g)) × (exists (turned i e′ s l r g′) ≡ exists (turned i e s l r g))
 root-place i e e′ left l r g g′ = (refl, refl)
 root-place i e e′ right l r g g′ = (refl, refl)
@@ -169,7 +169,7 @@ same-numbers (one-place {s} {ss} {us} e p) u =
 part-so : {t t′ : Tree} → (numberAt t′ ≡ numberAt t) × (exists t′ ≡ exists t) → Part t → Part t′
 part-so same p = record { not-root = λ there e. p .not-root (sym (same .1) ∙ there) (sym (same .0) ∙ e) }
 
--- a row that is not among those of a way
+-- a row that is not among the rows of a way
 apart-from : {ss us : List Step} → Same-places ss us → (u : Tree) (j : ℕ) → (j ∈ numbers (chained ss u) → ⊥) → All (λ s. s .at ≡ j → ⊥) us
 unfolding chained
 apart-from no-place u j out = none-all
@@ -177,13 +177,13 @@ apart-from (one-place {s} {ss} {us} e p) u j out =
     let here : s .at ≡ j → ⊥ = λ same. out (Memᴰ·cast (sym same) (at-in (s .at) (s .entry) (s .turn) (s .left-part) (s .right-part) (chained ss u))) in
     one-all here (apart-from p u j (λ there. out (on-in (s .at) (s .entry) (s .turn) (s .left-part) (s .right-part) (chained ss u) there)))
 
-pub taking-elsewhere : (us : List Step) (table : List ℕ) (j : ℕ) → All (λ s. s .at ≡ j → ⊥) us → rowAt (taking (taken-by us) table) j ≡ rowAt table j
+taking-elsewhere : (us : List Step) (table : List ℕ) (j : ℕ) → All (λ s. s .at ≡ j → ⊥) us → rowAt (taking (taken-by us) table) j ≡ rowAt table j
 unfolding taking
 taking-elsewhere [] table j none-all = refl
 taking-elsewhere (u ∷ us) table j (one-all h hs) =
     taking-elsewhere us (withEntry (u .at) (u .entry) table) j hs ∙ entry-elsewhere (u .at) table j (λ e. h (sym e)) (u .entry)
 
--- keys up or down: the rows of a way take other entries
+-- an erase or a push: the rows of a way take other entries
 pub entries-taken :
     (n : ℕ) {ss us : List Step} → Same-places ss us → (u : Tree) (table : List ℕ) → rowWords * n ≤ length table → Once (chained ss u)
     → Spelled (rowAt table) n (chained ss u) → Spelled (rowAt (taking (taken-by us) table)) n (chained us u)
@@ -211,9 +211,9 @@ entries-taken n (one-place {s} {ss} {us} e p) u table room once spelled =
     )) in
     closed-turn i e (s .turn) l r g′ (record {
       in-use = o .in-use;
-      as-told =
+      row-is =
           taking-elsewhere us first i (apart-from p u i (at-not-on i (s .entry) (s .turn) l r g once)) ∙ entry-written i table (has-row table i n (o .in-use) room) e
-          ∙ ap (holding e) (o .as-told) ∙ reheld (s .entry) e (s .turn) l r g g′ (first-place p u .0);
+          ∙ ap (holding e) (o .row-is) ∙ reheld (s .entry) e (s .turn) l r g g′ (first-place p u .0);
       aside-part = o .aside-part;
       on-part = part-so (first-place p u) (o .on-part);
       aside-spelled = aside′;
@@ -224,7 +224,7 @@ hooking-elsewhere : (p : Perhaps Step) (v : ℕ) (table : List ℕ) (j : ℕ) �
 hooking-elsewhere no-such v table j h = refl
 hooking-elsewhere (such s) v table j h = link-elsewhere (s .at) table j (λ e. h (sym e)) (s .turn) v
 
--- another part is linked where the way ended: what is written there besides is not among the rows in use before
+-- Another part is linked where the way ended. Any other row that is written was not in use before.
 module _ (n n′ : ℕ) (u u′ : Tree) (table : List ℕ) (rows′ : ℕ → Row) (room : rowWords * n ≤ length table) (more : n ≤ n′)
     (new-spelled : Spelled rows′ n′ u′) (new-part : 0 < n → Part u′)
   where
@@ -241,9 +241,9 @@ module _ (n n′ : ℕ) (u u′ : Tree) (table : List ℕ) (rows′ : ℕ → Ro
         let o : Turned (rowAt table) n i e (s .turn) l r u = opened-turn i e (s .turn) l r u spelled in
         closed-turn i e (s .turn) l r u′ (record {
           in-use = omega (arith, o .in-use);
-          as-told =
+          row-is =
               so i (o .in-use) ∙ link-written i table (has-row table i n (o .in-use) room) (s .turn) (numberAt u′)
-              ∙ ap (linking (s .turn) (numberAt u′)) (o .as-told) ∙ rehooked e (s .turn) l r u u′;
+              ∙ ap (linking (s .turn) (numberAt u′)) (o .row-is) ∙ rehooked e (s .turn) l r u u′;
           aside-part = o .aside-part;
           on-part = new-part (omega (arith, o .in-use));
           aside-spelled =
@@ -272,8 +272,8 @@ module _ (n n′ : ℕ) (u u′ : Tree) (table : List ℕ) (rows′ : ℕ → Ro
         ∙ hooking-elsewhere (last-such anything ts) (numberAt u′) table j (last-such-one anything (apart-from (same-symmetric onward) u j out)) in
         closed-turn i e (s .turn) l r g′ (record {
           in-use = omega (arith, o .in-use);
-          as-told =
-              stays i (at-not-on i e (s .turn) l r g once) (o .in-use) ∙ o .as-told
+          row-is =
+              stays i (at-not-on i e (s .turn) l r g once) (o .in-use) ∙ o .row-is
               ∙ renumbered e (s .turn) l r g g′ (root-place (t .at) e′ e′ (t .turn) (t .left-part) (t .right-part) (chained us u) (chained us u′) .0);
           aside-part = o .aside-part;
           on-part = part-so (root-place (t .at) e′ e′ (t .turn) (t .left-part) (t .right-part) (chained us u) (chained us u′)) (o .on-part);
@@ -285,7 +285,7 @@ module _ (n n′ : ℕ) (u u′ : Tree) (table : List ℕ) (rows′ : ℕ → Ro
           on-spelled = end-hooked (one-place {s = t} e′ p) (once-on i e (s .turn) l r g once) (o .on-spelled) so′;
         })
 
--- the rows of a way that take their own entries stay as they are
+-- writing each row of a way with its own entry changes nothing
 pub unchanged-taken : (n : ℕ) (ss : List Step) (u : Tree) (table : List ℕ) → Spelled (rowAt table) n (chained ss u) → taking (taken-by ss) table ≡ table
 unfolding chained taking
 unchanged-taken n [] u table spelled = refl
@@ -293,20 +293,20 @@ unchanged-taken n (s ∷ ss) u table spelled =
     let o : Turned (rowAt table) n (s .at) (s .entry) (s .turn) (s .left-part) (s .right-part) (chained ss u) =
     opened-turn (s .at) (s .entry) (s .turn) (s .left-part) (s .right-part) (chained ss u) spelled in
     let own : toCode (s .entry) ≡ rowAt table (s .at) .entry =
-    sym (ap (λ r. r .entry) (o .as-told) ∙ turned-entry (s .entry) (s .turn) (s .left-part) (s .right-part) (chained ss u)) in
+    sym (ap (λ r. r .entry) (o .row-is) ∙ turned-entry (s .entry) (s .turn) (s .left-part) (s .right-part) (chained ss u)) in
     ap (taking (taken-by ss)) (own-entry (s .at) (s .entry) table own) ∙ unchanged-taken n ss u table (o .on-spelled)
   where
     turned-entry : (e : Entry) (s : Side) (l r g : Tree) → turned-row e s l r g .entry ≡ toCode e
     turned-entry e left l r g = refl
     turned-entry e right l r g = refl
 
--- the entries of one way after another
+-- writing the entries of two ways, one after the other
 pub taking-both : (ss us : List Step) (table : List ℕ) → taking (taken-by (ss ++ us)) table ≡ taking (taken-by us) (taking (taken-by ss) table)
 unfolding taking
 taking-both [] us table = refl
 taking-both (s ∷ ss) us table = taking-both ss us (withEntry (s .at) (s .entry) table)
 
--- what stands in a tree stands at the end of a way or above it
+-- how often a row is in a tree: in the part at the end of a way, and above it
 pub chained-often : (ss : List Step) (u : Tree) (j : ℕ) → often j (numbers (chained ss u)) ≡ often j (numbers (chained ss none)) + often j (numbers u)
 unfolding chained numbers often
 chained-often [] u j = omega arith
@@ -330,28 +330,28 @@ module _ (rows : ℕ → Row) (n : ℕ) where
   turned-link e right l r g = refl
 
   -- the last row that a way passes names its end
-  pub data Hook-told (ss : List Step) (u : Tree) : Perhaps Step → Type 0 where
-    no-hook : ss ≡ [] → Hook-told ss u no-such
-    hook-told : {p : Step} → p .at ∈ numbers (chained ss none) → p .at < n → link (rows (p .at)) (p .turn) ≡ numberAt u → Hook-told ss u (such p)
+  pub data HookRow (ss : List Step) (u : Tree) : Perhaps Step → Type 0 where
+    no-hook : ss ≡ [] → HookRow ss u no-such
+    hook-row : {p : Step} → p .at ∈ numbers (chained ss none) → p .at < n → link (rows (p .at)) (p .turn) ≡ numberAt u → HookRow ss u (such p)
 
-  pub hook-is : (ss : List Step) (u : Tree) → Spelled rows n (chained ss u) → Hook-told ss u (last-such anything ss)
+  pub hook-is : (ss : List Step) (u : Tree) → Spelled rows n (chained ss u) → HookRow ss u (last-such anything ss)
   unfolding chained last-such
   hook-is [] u spelled = no-hook refl
   hook-is (s ∷ []) u spelled =
       let o : Turned rows n (s .at) (s .entry) (s .turn) (s .left-part) (s .right-part) u =
       opened-turn (s .at) (s .entry) (s .turn) (s .left-part) (s .right-part) u spelled in
-      hook-told (at-in (s .at) (s .entry) (s .turn) (s .left-part) (s .right-part) none) (o .in-use)
-      (ap (λ x. link x (s .turn)) (o .as-told) ∙ turned-link (s .entry) (s .turn) (s .left-part) (s .right-part) u)
+      hook-row (at-in (s .at) (s .entry) (s .turn) (s .left-part) (s .right-part) none) (o .in-use)
+      (ap (λ x. link x (s .turn)) (o .row-is) ∙ turned-link (s .entry) (s .turn) (s .left-part) (s .right-part) u)
   hook-is (s ∷ (t ∷ ss)) u spelled =
       above (last-such anything (t ∷ ss))
       (hook-is (t ∷ ss) u (opened-turn (s .at) (s .entry) (s .turn) (s .left-part) (s .right-part) (chained (t ∷ ss) u) spelled .on-spelled))
     where
-      above : (q : Perhaps Step) → Hook-told (t ∷ ss) u q → Hook-told (s ∷ (t ∷ ss)) u (first-of q (such s))
+      above : (q : Perhaps Step) → HookRow (t ∷ ss) u q → HookRow (s ∷ (t ∷ ss)) u (first-of q (such s))
       above no-such (no-hook e) = let never : _≡_ {A = ℕ} 0 1 = cc in absurd (omega arith)
-      above (such p) (hook-told there in-use names) =
-          hook-told (on-in (s .at) (s .entry) (s .turn) (s .left-part) (s .right-part) (chained (t ∷ ss) none) there) in-use names
+      above (such p) (hook-row there in-use names) =
+          hook-row (on-in (s .at) (s .entry) (s .turn) (s .left-part) (s .right-part) (chained (t ∷ ss) none) there) in-use names
 
--- a number that stands in a list, and one that doesn't
+-- a number that occurs at least once is in the list
 pub often-in : (j : ℕ) (xs : List ℕ) → 1 ≤ often j xs → j ∈ xs
 unfolding often
 often-in j [] h = absurd (omega arith)

@@ -1,4 +1,4 @@
--- Demand 3: the rows that a call reports are those of its ways over the PreTree of the present words, and so many at most.
+-- Demand 3: the rows that a call reports are those of its ways over the PreTree of the present words, and the bounds on them.
 -- Document 01: "The rows-read number in each reply equals the length of the defined way, bounded by W+1 or W+2."
 use Prim.Native.Nat.{ℕ, suc, pred, _+_, _/_, _^_, _≤_, _<_}
 use mathlib.Core.Path.{_≡_, refl, sym, ap, _∙_}
@@ -53,11 +53,11 @@ module _ (h : Header) (table : List ℕ) (S : List Entry) (right : wrong-header 
   undamaged : intact (shown h table) ≡ true
   undamaged = tree-intact h table S (s .increasing) (s .below) (s .tree)
 
-  -- what sees words alone reads the table as the PreTree of the set
+  -- what sees only words is the same over the tree that the table shows and over the PreTree of the set
   on-set : (f : Tree → ℕ) → SeesWords f → f (shown h table) ≡ f (treeOf (h .width) S)
   on-set f sees = sym (numbers-unseen f sees (shown h table)) ∙ ap f (s .tree)
 
-  -- a call that reads by f, which meets no damage in a tree without any and whose rows depend on words alone
+  -- a call that reads by f: f meets no damage in an intact tree, and its rows depend only on the words
   read-reports : {A : Type 0} (f : Tree → Reading A) (wide : Bool) (say : A → Answer) → ((x : A) → isRefusal (numberOf (say x)) ≡ false)
       → (intact (shown h table) ≡ true → brokenIn (f (shown h table) .ways) ≡ false) → SeesWords (λ t. rowsOf (f t .ways))
       → Reports wide (rowsOf (f (treeOf (h .width) S) .ways)) 0 (read-reply h table wide say (f (shown h table)))
@@ -66,14 +66,14 @@ module _ (h : Header) (table : List ℕ) (S : List Entry) (right : wrong-header 
   read-reports {A} f false say says whole blind =
       rw (right, whole undamaged)
       (record {
-        number = said (f (shown h table) .answer);
+        number = not-refused (f (shown h table) .answer);
         rows-read = on-set (λ t. rowsOf (f t .ways)) blind;
         moving-count = refl;
       })
     where
-      said : (q : Perhaps A) → isRefusal (numberOf (saying say q)) ≡ false
-      said (such x) = says x
-      said no-such = refl
+      not-refused : (q : Perhaps A) → isRefusal (numberOf (saying say q)) ≡ false
+      not-refused (such x) = says x
+      not-refused no-such = refl
 
   sound : isSound h table ≡ true
   sound = sound-is h table .the-test .0 (sound-is h table .of-a-set .1 (S, s))
@@ -213,7 +213,7 @@ rows-exact Last h table buffer S right s =
 rows-exact Audit h table buffer S right s = audit-reports h table S right s
 rows-exact Call.List h table buffer S right s = list-reports h table S right s buffer
 
--- the rows over two sets of the same words are the same, and so is what a call is refused for
+-- for two sets of the same words, the rows are the same, and so are the refusals
 module _ (W : ℕ) (S S′ : List Entry) (same : words S ≡ words S′) where
   over-both : (f : Tree → ℕ) → SeesWords f → f (treeOf W S) ≡ f (treeOf W S′)
   over-both f sees = on-same-words f sees W S S′ same
@@ -258,7 +258,7 @@ rows-alike c h h′ table table′ buffer buffer′ S S′ right right′ s s′
     ∙ (rw (width, length, space, rows-by-words c (h′ .width) S S′ same, refused-by-words c (h′ .width) S S′ _ _ same))
     ∙ sym (rows-exact c h′ table′ buffer′ S′ right′ s′ .rows-read)
 
--- what holds of both is so of the one that a test picks
+-- what holds of both holds of the one that a test picks
 either-way : {A : Type 0} (P : A → Type 0) (b : Bool) {x y : A} → P x → P y → P (if b then x else y)
 either-way P true p q = p
 either-way P false p q = q

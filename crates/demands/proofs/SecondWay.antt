@@ -1,4 +1,4 @@
--- On a table that holds a set the second way of a `del` never goes astray.
+-- On a table that holds a set the second way of a `del` ends at the last row.
 -- Document 01: damage is "the second way of `del` doesn't end at row count−1 with its key".
 use Prim.Native.Nat.{ℕ, zero, suc, pred, _+_, _*_, _<_}
 use mathlib.Core.Path.{_≡_, refl, _∙_}
@@ -11,7 +11,7 @@ use lib.Dec.{ltb, eqb}
 use borrow.Author.Tests.{eqb-true, lt-ltb, le-ltb, eq-eqb, ne-eqb}
 use Rattle.ordered.specs.Such.{if_then_else_}
 use Rattle.ordered.specs.Word.{Side, left, right, bitOf, side}
-use Rattle.ordered.specs.Said.{_∈_}
+use Rattle.ordered.specs.Source004.{_∈_}
 use Rattle.ordered.specs.Dictionary.{Entry}
 use Rattle.ordered.specs.Tree.{Tree, intact}
 use Rattle.ordered.specs.Proper.{Fitting}
@@ -25,10 +25,10 @@ use Rattle.pretree.specs.Unfold.{unfolded, shown}
 use Rattle.pretree.specs.Del.{secondWay, astray}
 use Rattle.demands.specs.Numbers.{numbers, often}
 use Rattle.demands.specs.SoundIs.{HoldsSet}
-use Rattle.demands.proofs.Unfolding.{part-of, along-link, key, row-with, hanging, opened}
+use Rattle.demands.proofs.Unfolding.{part-of, along-link, key, row-with, part-shown, opened}
 use Rattle.demands.proofs.SoundIs.{tree-intact}
 
--- row j may stand in t by its key, and the way of its key ends at it
+-- the key of row j fits into t, and the way of that key ends at row j
 record Reaches (rows : ℕ → Row) (j m path low : ℕ) (t : Tree) : Type 0 where
   fits : Fitting m path low (key rows j)
   ends-key : ends-at (key rows j) (way (following (key rows j)) m t) ≡ true
@@ -71,7 +71,7 @@ module _ (rows : ℕ → Row) (j : ℕ) where
       beside (inl there) = below-root m path low i parts left fits (in-part left there)
       beside (inr there) = below-root m path low i parts right fits (in-part right there)
 
-  -- the way of the key of a row that stands in a tree without damage ends at that row
+  -- if a row is in a tree without damage, the way of its key ends at that row
   reaches :
       (n m path low i : ℕ) → intact (unfolded rows n m path low i) ≡ true → j ∈ numbers (unfolded rows n m path low i)
       → Reaches rows j m path low (unfolded rows n m path low i)
@@ -79,12 +79,12 @@ module _ (rows : ℕ → Row) (j : ℕ) where
   reaches n zero path low i h there =
       let o = opened rows n zero path low i h in
       rw (o .shows)
-      (at-root zero path low i (hanging rows n zero path i) (o .no-damage .key-fits) (List·Memᴰ·eq-of-singleton (rw (o .shows) at there)))
+      (at-root zero path low i (part-shown rows n zero path i) (o .no-damage .key-fits) (List·Memᴰ·eq-of-singleton (rw (o .shows) at there)))
   reaches n (suc m) path low i h there =
       let o = opened rows n (suc m) path low i h in
       let low′ : ℕ = suc (key rows i) in
       rw (o .shows)
-      (by-place m path low i (hanging rows n (suc m) path i) (o .no-damage .key-fits)
+      (by-place m path low i (part-shown rows n (suc m) path i) (o .no-damage .key-fits)
       (λ s.
       along-link (λ x t. j ∈ numbers t → Reaches rows j m (path * 2 + bitOf s) low′ t) (unfolded rows n m (path * 2 + bitOf s) low′)
       (λ nowhere. absurd (List·Memᴰ·not-nil nowhere))

@@ -1,4 +1,4 @@
--- What holds of every row in use holds of every row that a table shows, damaged or not, and of every row that a way passes or ends at.
+-- What holds of every row in use holds of every row that a table shows, damaged or not, and of every row where a way passes or ends.
 use Prim.Native.Nat.{ℕ, zero, suc, _+_, _*_, _<_}
 use mathlib.Core.Path.{_≡_, refl}
 use mathlib.Core.Bool.{Bool, true, false}

@@ -1,5 +1,4 @@
--- The programs of specs/ShutOut.antt break the demands: each at the empty set of one-bit words, or the set of the word 1, in a table of one
--- row.
+-- The programs of specs/ShutOut.antt break the demands, in a table of one row with one-bit words: each at the empty set or at a set of one word.
 use Prim.Native.Nat.{ℕ}
 use mathlib.Core.Path.{_≡_, refl, sym, ap, ap₂, subst, _∙_}
 use mathlib.Core.List.{List, [], _∷_}

@@ -1,4 +1,4 @@
--- What it is to be sound, and that a set has one tree: the proofs of specs/SoundIs.antt.
+-- What sound means, and that a set has one tree: the proofs for specs/SoundIs.antt.
 use Prim.Native.Nat.{ℕ, _^_, _<_}
 use mathlib.Core.Path.{_≡_, sym, ap, _∙_}
 use mathlib.Core.Bool.{true}
@@ -6,7 +6,7 @@ use mathlib.Core.List.{List}
 use native.Mathlib.Omega.{arith}
 use lib.ListN.{length}
 use Rattle.ordered.specs.Dictionary.{Entry, words, Increasing}
-use Rattle.ordered.specs.Said.{_∈_}
+use Rattle.ordered.specs.Source004.{_∈_}
 use Rattle.ordered.specs.Tree.{Tree, entries, intact, unnumbered, treeOf}
 use Rattle.ordered.specs.Proper.{Fitting, Proper}
 use Rattle.ordered.proofs.Bits.{on-root-path}
@@ -22,7 +22,7 @@ use Rattle.demands.proofs.Tested.{shown-proper, test-passes, test-says,
 
 module _ (h : Header) (table : List ℕ) where
   -- a table that passes the test holds the set of the entries in its rows
-  pub held-by-test : isSound h table ≡ true → HoldsSet h table (entries (shown h table))
+  held-by-test : isSound h table ≡ true → HoldsSet h table (entries (shown h table))
   held-by-test passed =
       let t : Tree = shown h table in
       let proper : Proper (h .width) 0 0 t = shown-proper h table (test-says h table passed .0) in
@@ -34,12 +34,12 @@ module _ (h : Header) (table : List ℕ) where
         each-row-once = each-row-once h table passed;
       }
 
-  -- so to hold the set S it is enough to show no damage and the entries of S, if the count is right
+  -- so a table holds S if it shows no damage and the entries of S, and the count is right
   pub held-by-entries : {S : List Entry} → intact (shown h table) ≡ true → entries (shown h table) ≡ S → length S ≡ h .count → HoldsSet h table S
   held-by-entries undamaged shows whole =
       rw shows at (held-by-test (test-passes h table undamaged (sym (entries-length (shown h table)) ∙ ap length shows ∙ whole)))
 
--- the words of a set of width W fit at the root
+-- the words of a set of width W fit into the whole tree
 pub set-fits : (W : ℕ) (S : List Entry) → ((x : ℕ) → x ∈ words S → x < 2 ^ W) → AllWords (Fitting W 0 0) S
 set-fits W S below = all-words S (λ x there. record { not-below = omega arith; on-path = on-root-path W x .0 (below x there) })
 

@@ -1,4 +1,4 @@
--- An `add` of a word already there: its row takes the new entry. The table then shows the same tree with that entry, and holds the
+-- An `add` of a word that is already there: its row takes the new entry. The table then shows the same tree with that entry, and holds the
 -- dictionary's next set. Document 02 §1: "An `add` of a word already there still answers 7, but now stores the new serial."
 use Prim.Native.Nat.{ℕ, zero, suc, _+_, _*_, _^_, _<_}
 use mathlib.Core.Path.{_≡_, refl, sym, ap, ap₂, _∙_, subst}
@@ -16,12 +16,12 @@ use Rattle.ordered.specs.Proper.{Fitting, Proper}
 use Rattle.ordered.specs.Way.{Step, Way, way, rows, following}
 use Rattle.ordered.specs.Reading.{Found, wordIn, root-row}
 use Rattle.ordered.specs.Change.{Take, Adding, adding, adding-by, ends-at, numberAt}
-use Rattle.ordered.specs.Grown.{linked as chained, shifted, storing, grown as grown-tree}
+use Rattle.ordered.specs.Grown.{chained, shifted, storing, tree-after-add}
 use Rattle.ordered.proofs.Lists.{by-order}
 use Rattle.ordered.proofs.Parts.{one-all, all-map, above-all, no-lookup}
 use Rattle.ordered.proofs.OneTree.{root-fits, proper-intact}
-use Rattle.ordered.proofs.Ways.{linked-again}
-use Rattle.ordered.proofs.Moves.{taken-by, linked-append}
+use Rattle.ordered.proofs.Ways.{chained-again}
+use Rattle.ordered.proofs.PushPop.{taken-by, chained-append}
 use Rattle.ordered.proofs.Grown.{grown-proper, grown-entries}
 use Rattle.ordered.proofs.Answers.{adding-finds}
 use Rattle.pretree.specs.declared.Header.{Header}
@@ -37,7 +37,7 @@ use Rattle.pretree.specs.declared.Call.the-variants.{Add}
 use Rattle.pretree.specs.Call.{After, after}
 use Rattle.pretree.proofs.Writing.{same-capacity}
 use Rattle.pretree.proofs.Rows.{key-stays, links-stay, own-key, rows-fit, taking-length}
-use Rattle.demands.specs.Expected.{Said, Kept, only, expected, changed, kept-after}
+use Rattle.demands.specs.Expected.{AnswerFields, Kept, only, expected, changed, kept-after}
 use Rattle.demands.specs.Demand2.{Holding, Keeps, keptBy, KeepsDictionary}
 use Rattle.demands.specs.SoundIs.{AnySerial}
 use Rattle.demands.proofs.ShownRows.{EachRow, shown-each, way-each}
@@ -47,7 +47,7 @@ use Rattle.demands.proofs.Spelled.{Spelled}
 use Rattle.demands.proofs.Rewritten.{Same-places, same-places, shifted-places, joined-places, first-place, entries-taken, unchanged-taken, taking-both}
 use Rattle.demands.proofs.Added.{outcome, outcome-so, present-is, present-so, same-long, add-held, shown-spelled, root-first, rows-once, right-width, has-room, shown-so}
 
--- the row at which a way ends, as one more row that it passes, and what then is its end
+-- the row at which a way ends, as one more row that it passes; and then the end of that way
 abbrev last-step : Tree → List Step
 last-step none = []
 last-step (row i e l r) = record { at = i; entry = e; turn = left; left-part = l; right-part = r; below = 0 } ∷ []
@@ -58,11 +58,11 @@ beyond none = none
 beyond (row i e l r) = l
 beyond damaged = damaged
 
-linked-end : (u : Tree) → chained (last-step u) (beyond u) ≡ u
+chained-end : (u : Tree) → chained (last-step u) (beyond u) ≡ u
 unfolding chained
-linked-end none = refl
-linked-end (row i e l r) = refl
-linked-end damaged = refl
+chained-end none = refl
+chained-end (row i e l r) = refl
+chained-end damaged = refl
 
 linked-stored : (e : Entry) (u : Tree) → chained (shifted e (last-step u)) (beyond u) ≡ storing e u
 unfolding chained shifted
@@ -77,7 +77,7 @@ stored-take m k e none there = absurd (false≢true there)
 stored-take m k e (row i f l r) there = refl
 stored-take m k e damaged there = absurd (false≢true there)
 
--- a set with another entry for one of its words has as many entries
+-- replacing the entry of a word does not change the length
 insert-length-there : (e : Entry) (s : List Entry) → Increasing (words s) → isThere (lookup (e .key) s) ≡ true → length (insert e s) ≡ length s
 unfolding insert lookup first-such
 insert-length-there e [] rising there = absurd (false≢true there)
@@ -93,7 +93,7 @@ insert-length-there e (f ∷ s) (one-increasing a rising) there =
         (one-all (ne-eqb (e .key) (f .key) (λ same. omega arith))
         (all-map (λ g above. ne-eqb (e .key) (g .key) (λ same. omega arith)) (above-all s a))))
 
--- a set that has an entry is not empty, and a tree that has one is there
+-- a set in which a word is found is not empty, and the tree of such a set is not none
 not-empty : (k : ℕ) (s : List Entry) → isThere (lookup k s) ≡ true → length s ≡ 0 → ⊥
 unfolding lookup first-such
 not-empty k [] there none-there = false≢true there
@@ -129,11 +129,11 @@ module _ (h : Header) (table : List ℕ) (S : List Entry) (H : Holding h table S
 
   before-whole : chained before (beyond (w .end)) ≡ t
   before-whole =
-      linked-append (w .passed) (last-step (w .end)) (beyond (w .end)) ∙ ap (chained (w .passed)) (linked-end (w .end))
-      ∙ linked-again (following (new .key)) (h .width) t
+      chained-append (w .passed) (last-step (w .end)) (beyond (w .end)) ∙ ap (chained (w .passed)) (chained-end (w .end))
+      ∙ chained-again (following (new .key)) (h .width) t
 
   way-whole : chained (w .passed) (w .end) ≡ t
-  way-whole = linked-again (following (new .key)) (h .width) t
+  way-whole = chained-again (following (new .key)) (h .width) t
 
   module _ (ends : ends-at (new .key) w ≡ true) where
     takes-there : adding (h .width) new t .takes ≡ end-take
@@ -148,14 +148,14 @@ module _ (h : Header) (table : List ℕ) (S : List Entry) (H : Holding h table S
         ∙ ap (λ ts. taking ts table) (stored-take (w .bits) (new .key) new (w .end) ends)
 
     abbrev new-tree : Tree
-    new-tree = grown-tree (h .count) (h .width) new t
+    new-tree = tree-after-add (h .count) (h .width) new t
 
     tree-after : new-tree ≡ chained later (beyond (w .end))
-    unfolding grown-tree
+    unfolding tree-after-add
     tree-after =
         rw ends
         (ap (chained (w .passed)) (sym (linked-stored new (w .end)))
-        ∙ sym (linked-append (w .passed) (shifted new (last-step (w .end))) (beyond (w .end))))
+        ∙ sym (chained-append (w .passed) (shifted new (last-step (w .end))) (beyond (w .end))))
 
     spelled : Spelled (rowAt stored-table) (h .count) new-tree
     spelled =
@@ -184,10 +184,10 @@ module _ (h : Header) (table : List ℕ) (S : List Entry) (H : Holding h table S
       some : h .count ≡ 0 → ⊥
       some none-there = not-empty (new .key) S there (omega (arith, H .holds .number))
 
-      pub stored-shows : shown h stored-table ≡ new-tree
+      stored-shows : shown h stored-table ≡ new-tree
       stored-shows = shown-so h stored-table new-tree some new-proper spelled (first .1) (first .0)
 
-      pub stored-held : Holding h stored-table (insert new S)
+      stored-held : Holding h stored-table (insert new S)
       unfolding wrong-header
       stored-held =
           record {
@@ -202,7 +202,7 @@ module _ (h : Header) (table : List ℕ) (S : List Entry) (H : Holding h table S
                 (ap entries stored-shows ∙ new-entries) (insert-length-there new S (H .holds .increasing) there ∙ H .holds .number);
           }
 
--- On every table, damaged or not: the row at which the way of a word ends at the word has that word, so only its serial changes.
+-- On every table, damaged or not: if the way of a word ends at it, the row there has that word. So only its serial changes.
 module _ (h : Header) (table : List ℕ) (new : Entry) where
   own-word : (m : ℕ) (u : Tree) → EachRow (λ i e. e ≡ entryOf (rowAt table i)) u
       → isThere (only-if (λ f. eqb (new .key) (wordIn f)) (root-row m u)) ≡ true → rowAt table (numberAt u) .entry .key ≡ new .key
@@ -241,10 +241,10 @@ module _ (h : Header) (table : List ℕ) (S : List Entry) (H : Holding h table S
       rw (outcome-so h table S H new)
       (by-width (leb (2 ^ h .width) k) refl (adding (h .width) new (shown h table) .present) (λ small. present-so h table S H new small))
     where
-      said : Bool → Bool → Bool → Said
-      said wide there full = if wide then only 3 else if there then only 7 else if full then only 5 else only 0
+      fields : Bool → Bool → Bool → AnswerFields
+      fields wide there full = if wide then only 3 else if there then only 7 else if full then only 5 else only 0
 
-      kept : Said → Kept
+      kept : AnswerFields → Kept
       kept answer = if eqb (answer .number) 0 || eqb (answer .number) 7 then record { width = h .width; set = insert new S; buffer = buffer } else keptBy h S buffer
 
       left-by : Outcome → After
@@ -252,7 +252,7 @@ module _ (h : Header) (table : List ℕ) (S : List Entry) (H : Holding h table S
 
       by-room : (small : leb (2 ^ h .width) k ≡ false) (there : Bool) → isThere (lookup k S) ≡ there
           → (full : Bool) → eqb (h .count) (capacity table) ≡ full
-          → Keeps (said false there full) (kept (said false there full)) table (left-by (outcome h table S H new false there full))
+          → Keeps (fields false there full) (kept (fields false there full)) table (left-by (outcome h table S H new false there full))
       by-room small true is full how =
           let ends : ends-at k (way (following k) (h .width) (shown h table)) ≡ true = sym (present-is h table S H new) ∙ present-so h table S H new small ∙ is in
           let takes : adding (h .width) new (shown h table) .takes ≡ end-take h table S H new = takes-there h table S H new ends in
@@ -274,12 +274,12 @@ module _ (h : Header) (table : List ℕ) (S : List Entry) (H : Holding h table S
           }
 
       by-width : (wide : Bool) → leb (2 ^ h .width) k ≡ wide → (there : Bool) → (leb (2 ^ h .width) k ≡ false → there ≡ isThere (lookup k S))
-          → let answer : Said = said wide (isThere (lookup k S)) (eqb (length S) (capacity table)) in
+          → let answer : AnswerFields = fields wide (isThere (lookup k S)) (eqb (length S) (capacity table)) in
           Keeps answer (kept answer) table (left-by (outcome h table S H new wide there (eqb (h .count) (capacity table))))
       by-width true e there so = nothing-changed h table buffer S H (refused h WordTooWide) (only 3) refl refl
       by-width false e there so = rw (so e, H .holds .number) (by-room e (isThere (lookup k S)) refl (eqb (h .count) (capacity table)) refl)
 
--- "Sound" looks at keys and links alone
+-- "Sound" looks only at keys and links
 met-by-same : {f g : ℕ → List Met} → ((k : ℕ) → f k ≡ g k) → (j : ℕ) → met-by f j ≡ met-by g j
 met-by-same same zero = refl
 met-by-same same (suc j) = same (suc j)

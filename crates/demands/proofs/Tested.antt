@@ -25,7 +25,7 @@ use Rattle.demands.proofs.Unfolding.{both, none-proper, unfolded-proper
 use Rattle.demands.proofs.Meeting.{met-in, keys-met, times-met, proper-in-place, met-shown, met-intact, sound-orderly}
 
 module _ (h : Header) (table : List ℕ) where
-  -- what holds of the empty tree and of the unfolding of row 0 holds of the tree that is shown
+  -- what holds of the empty tree and of the tree unfolded from row 0 holds of the tree that is shown
   pub shown-as : (P : Tree → Type 0) → P none → P (unfolded (rowAt table) (h .count) (h .width) 0 0 0) → P (shown h table)
   unfolding shown
   shown-as P empty root = by-cases (eqb (h .count) 0)
@@ -34,7 +34,7 @@ module _ (h : Header) (table : List ℕ) where
       by-cases true = empty
       by-cases false = root
 
-  -- the laws of an unfolding, said of the tree that is shown
+  -- the laws of Unfolding.antt for the whole tree that is shown
   module _ (undamaged : intact (shown h table) ≡ true) where
     pub shown-proper : Proper (h .width) 0 0 (shown h table)
     shown-proper =
@@ -64,7 +64,7 @@ module _ (h : Header) (table : List ℕ) where
         by-cases true u = refl
         by-cases false u = rw add-two (met-shown (rowAt table) (h .count) (h .width) 0 0 0 0 u)
 
-  -- what the test says: no damage, and as many rows as are in use
+  -- the test asks for no damage, and as many rows as are in use
   pub test-passes : intact (shown h table) ≡ true → size (shown h table) ≡ h .count → isSound h table ≡ true
   unfolding isSound
   test-passes undamaged whole = rw (undamaged, eq-eqb (size (shown h table)) (h .count) whole)
@@ -75,7 +75,7 @@ module _ (h : Header) (table : List ℕ) where
       let b = both (intact (shown h table)) (eqb (size (shown h table)) (h .count)) passed in
       (b .0, eqb-true (size (shown h table)) (h .count) (b .1))
 
-  -- then each row in use stands in the tree once
+  -- if the test passes, each row in use is in the tree once
   pub each-row-once : isSound h table ≡ true → (i : ℕ) → often i (numbers (shown h table)) ≡ once-below (h .count) i
   each-row-once passed =
       let t : Tree = shown h table in

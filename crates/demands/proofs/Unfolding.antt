@@ -1,5 +1,5 @@
--- The laws of what a table shows, where it shows no damage: the tree is proper, its rows are in use ("Rows in use are 0 to count−1") and
--- different, it depends on its own rows alone, and rows that take other numbers change row numbers alone.
+-- Laws of the tree that a table shows without damage. It is proper. Its rows are in use ("Rows in use are 0 to count−1") and different. It depends
+-- only on its own rows. If rows move to other places, only row numbers change.
 use Prim.Native.Nat.{ℕ, zero, suc, _+_, _*_, _/_, _^_, _≤_, _<_}
 use mathlib.Core.Path.{_≡_, refl, sym, ap, _∙_}
 use mathlib.Core.Bool.{Bool, true, false, _&&_, false≢true}
@@ -10,7 +10,7 @@ use lib.Dec.{ltb, leb, eqb}
 use borrow.Author.Tests.{ltb-true, leb-true, eqb-true, lt-ltb, le-leb, eq-eqb}
 use Rattle.ordered.specs.Such.{if_then_else_}
 use Rattle.ordered.specs.Word.{Side, left, right, bitOf}
-use Rattle.ordered.specs.Said.{_∈_}
+use Rattle.ordered.specs.Source004.{_∈_}
 use Rattle.ordered.specs.Tree.{Tree, none, row, damaged, part, entries, listing, size, intact}
 use Rattle.ordered.specs.Proper.{Fitting, Proper}
 use Rattle.ordered.proofs.Parts.{All, none-all, one-all, all-append, words-append}
@@ -40,14 +40,14 @@ pub no-link : (r : Row) → ends-there 0 r ≡ true → (s : Side) → link r s 
 no-link r h left = eqb-true (r .left) 0 (both (eqb (r .left) 0) (eqb (r .right) 0) h .0)
 no-link r h right = eqb-true (r .right) 0 (both (eqb (r .left) 0) (eqb (r .right) 0) h .1)
 
--- what holds of an empty link, and of what a link to a row shows, holds of what a link shows
+-- what holds of an empty link and of a link to a row holds of every link
 pub along-link :
     (P : ℕ → Tree → Type 0) (f : ℕ → Tree) → P 0 none → ((k : ℕ) → intact (f (suc k)) ≡ true → P (suc k) (f (suc k)))
     → (j : ℕ) → intact (linked f j) ≡ true → P j (linked f j)
 along-link P f empty there zero h = empty
 along-link P f empty there (suc k) h = there k h
 
--- and a link shows no damage if none is shown where it leads to a row
+-- a link shows no damage if every link to a row shows none
 pub by-link : (P : ℕ → Type 0) (f : ℕ → Tree) → ((k : ℕ) → P (suc k) → intact (f (suc k)) ≡ true) → (j : ℕ) → P j → intact (linked f j) ≡ true
 unfolding intact
 by-link P f there zero h = refl
@@ -65,11 +65,11 @@ module _ (rows : ℕ → Row) where
   row-with i part = row i (entryOf (rows i)) (part left) (part right)
 
   -- what the link of row i on side s shows, where n rows are in use and the row has m bits left
-  abbrev pub hanging : ℕ → ℕ → ℕ → ℕ → Side → Tree
-  hanging n zero path i s = none
-  hanging n (suc m) path i s = linked (unfolded rows n m (path * 2 + bitOf s) (suc (key i))) (link (rows i) s)
+  abbrev pub part-shown : ℕ → ℕ → ℕ → ℕ → Side → Tree
+  part-shown n zero path i s = none
+  part-shown n (suc m) path i s = linked (unfolded rows n m (path * 2 + bitOf s) (suc (key i))) (link (rows i) s)
 
--- row i is no damage
+-- row i has no damage
 pub record NoDamage (rows : ℕ → Row) (n m path low i : ℕ) : Type 0 where
   pub in-use : i < n
   pub key-fits : Fitting m path low (key rows i)
@@ -78,23 +78,23 @@ pub record NoDamage (rows : ℕ → Row) (n m path low i : ℕ) : Type 0 where
 -- no damage is shown from row i down
 pub record Opened (rows : ℕ → Row) (n m path low i : ℕ) : Type 0 where
   pub no-damage : NoDamage rows n m path low i
-  pub shows : unfolded rows n m path low i ≡ row-with rows i (hanging rows n m path i)
-  pub parts : (s : Side) → intact (hanging rows n m path i s) ≡ true
+  pub shows : unfolded rows n m path low i ≡ row-with rows i (part-shown rows n m path i)
+  pub parts : (s : Side) → intact (part-shown rows n m path i s) ≡ true
 
 module _ (rows : ℕ → Row) (n : ℕ) where
   module _ (m path low i : ℕ) where
-    abbrev pub picking : Bool → Tree
-    picking b = if b then row-with rows i (hanging rows n m path i) else damaged
+    abbrev picking : Bool → Tree
+    picking b = if b then row-with rows i (part-shown rows n m path i) else damaged
 
     pub picked : (b : Bool) → judged n m path low i (rows i) ≡ b → unfolded rows n m path low i ≡ picking b
     unfolding unfolded
     picked b e = once m ∙ ap picking e
       where
-        once : (m : ℕ) → unfolded rows n m path low i ≡ (if judged n m path low i (rows i) then row-with rows i (hanging rows n m path i) else damaged)
+        once : (m : ℕ) → unfolded rows n m path low i ≡ (if judged n m path low i (rows i) then row-with rows i (part-shown rows n m path i) else damaged)
         once zero = refl
         once (suc m) = refl
 
-    -- a row that is judged so is no damage
+    -- a row that passes the test `judged` has no damage
     pub judged-so : judged n m path low i (rows i) ≡ true → NoDamage rows n m path low i
     judged-so e =
         let a = both (ltb i n) (leb low (key rows i) && (eqb (key rows i / 2 ^ m) path && ends-there m (rows i))) e in
@@ -106,8 +106,8 @@ module _ (rows : ℕ → Row) (n : ℕ) where
           links-end = c .1;
         }
 
-    -- a row that is no damage is shown,
-    pub shown-row : NoDamage rows n m path low i → unfolded rows n m path low i ≡ row-with rows i (hanging rows n m path i)
+    -- a row without damage is shown
+    pub shown-row : NoDamage rows n m path low i → unfolded rows n m path low i ≡ row-with rows i (part-shown rows n m path i)
     shown-row r =
         picked true
         (rw (
@@ -117,8 +117,8 @@ module _ (rows : ℕ → Row) (n : ℕ) where
           r .links-end,
         ))
 
-    -- and without damage if its parts are
-    pub intact-row : NoDamage rows n m path low i → ((s : Side) → intact (hanging rows n m path i s) ≡ true) → intact (unfolded rows n m path low i) ≡ true
+    -- the tree at a row is intact if the row has no damage and its parts are intact
+    pub intact-row : NoDamage rows n m path low i → ((s : Side) → intact (part-shown rows n m path i s) ≡ true) → intact (unfolded rows n m path low i) ≡ true
     unfolding intact
     intact-row r parts = rw (shown-row r, parts left, parts right)
 
@@ -129,7 +129,7 @@ module _ (rows : ℕ → Row) (n : ℕ) where
       where
         by-cases : (b : Bool) → judged n m path low i (rows i) ≡ b → Opened rows n m path low i
         by-cases true e =
-            let halves = both (intact (hanging rows n m path i left)) (intact (hanging rows n m path i right)) (sym (ap intact (picked true e)) ∙ h) in
+            let halves = both (intact (part-shown rows n m path i left)) (intact (part-shown rows n m path i right)) (sym (ap intact (picked true e)) ∙ h) in
             record {
               no-damage = judged-so e;
               shows = picked true e;
@@ -137,19 +137,19 @@ module _ (rows : ℕ → Row) (n : ℕ) where
             }
         by-cases false e = absurd (false≢true (sym (ap intact (picked false e)) ∙ h))
 
-  -- what holds of none, and of a row where it holds of both parts, holds of an unfolding without damage
+  -- Induction: P holds of an unfolding without damage if it holds of none, and of a row if it holds of both parts.
   every-part :
       (P : Tree → Type 0) → P none
       → ((i : ℕ) (part : Side → Tree) → i < n → ((s : Side) → P (part s)) → P (row-with rows i part))
       → (m path low i : ℕ) → intact (unfolded rows n m path low i) ≡ true → P (unfolded rows n m path low i)
   every-part P empty step zero path low i h =
       let o = opened zero path low i h in
-      rw (o .shows) (step i (hanging rows n zero path i) (o .no-damage .in-use) (λ s. empty))
+      rw (o .shows) (step i (part-shown rows n zero path i) (o .no-damage .in-use) (λ s. empty))
   every-part P empty step (suc m) path low i h =
       let o = opened (suc m) path low i h in
       let low′ : ℕ = suc (key rows i) in
       rw (o .shows)
-      (step i (hanging rows n (suc m) path i) (o .no-damage .in-use) (λ s.
+      (step i (part-shown rows n (suc m) path i) (o .no-damage .in-use) (λ s.
       along-link (λ j. P) (unfolded rows n m (path * 2 + bitOf s) low′) empty
       (λ k. every-part P empty step m (path * 2 + bitOf s) low′ (suc k)) (link (rows i) s) (o .parts s)))
 
@@ -167,7 +167,7 @@ module _ (rows : ℕ → Row) (n : ℕ) where
         key-fits = o .no-damage .key-fits;
         parts =
             λ s.
-            rw (part-of (hanging rows n (suc m) path i) s)
+            rw (part-of (part-shown rows n (suc m) path i) s)
             (along-link (λ j. Proper m (path * 2 + bitOf s) low′) (unfolded rows n m (path * 2 + bitOf s) low′)
             (none-proper m (path * 2 + bitOf s) low′)
             (λ k. unfolded-proper m (path * 2 + bitOf s) low′ (suc k)) (link (rows i) s) (o .parts s));
@@ -188,17 +188,17 @@ module _ (rows : ℕ → Row) (n : ℕ) where
         every-part (λ t. listing t ≡ map (key rows) (numbers t)) refl
         (λ i part in-use same. rw (words-append, map-append, same left, same right)) m path low i h
 
-    -- its keys rise, so no row stands in it twice,
+    -- its keys increase, so no row is in it twice
     pub no-row-twice : (j : ℕ) → often j (numbers (unfolded rows n m path low i)) ≤ 1
     no-row-twice =
         none-twice (key rows) (numbers (unfolded rows n m path low i))
         (rw keys-of-numbers at (keys-rise m path low (unfolded rows n m path low i) (unfolded-proper m path low i h)))
 
-    -- and it has at most as many rows as are in use
-    pub size-in-use : size (unfolded rows n m path low i) ≤ n
+    -- it has at most as many rows as are in use
+    size-in-use : size (unfolded rows n m path low i) ≤ n
     size-in-use = rw (← numbers-length) (at-most (numbers (unfolded rows n m path low i)) no-row-twice n numbers-in-use)
 
--- the row whose links name the rows by their other numbers
+-- the row with the new numbers in its links
 abbrev pub relinked : (ℕ → ℕ) → Row → Row
 relinked σ r = record { entry = r .entry; left = σ (r .left); right = σ (r .right) }
 
@@ -207,7 +207,7 @@ pub record Moved (σ : ℕ → ℕ) (rows rows′ : ℕ → Row) (n′ j : ℕ) 
   pub in-use : σ j < n′
   pub same-row : rows′ (σ j) ≡ relinked σ (rows j)
 
--- other numbers σ, under which 0 still means none, and nothing else does
+-- σ gives rows other numbers. 0 still means none, and no row gets the number 0.
 module _ (σ : ℕ → ℕ) (none-stays : σ 0 ≡ 0) (none-else : (j : ℕ) → σ (suc j) ≡ 0 → ⊥) (rows rows′ : ℕ → Row) (n n′ : ℕ) where
   relinked-side : (r : Row) (s : Side) → link (relinked σ r) s ≡ σ (link r s)
   relinked-side r left = refl
@@ -231,19 +231,19 @@ module _ (σ : ℕ → ℕ) (none-stays : σ 0 ≡ 0) (none-else : (j : ℕ) →
       unfolding numbers
       root-in = rw (o .shows) (List·Memᴰ·head refl)
 
-      part-in : (s : Side) (j : ℕ) → j ∈ numbers (hanging rows n m path i s) → j ∈ numbers (unfolded rows n m path low i)
+      part-in : (s : Side) (j : ℕ) → j ∈ numbers (part-shown rows n m path i s) → j ∈ numbers (unfolded rows n m path low i)
       unfolding numbers
-      part-in left j there = rw (o .shows) (List·Memᴰ·tail (Memᴰ·append-left (numbers (hanging rows n m path i right)) there))
-      part-in right j there = rw (o .shows) (List·Memᴰ·tail (Memᴰ·append-right (numbers (hanging rows n m path i left)) there))
+      part-in left j there = rw (o .shows) (List·Memᴰ·tail (Memᴰ·append-left (numbers (part-shown rows n m path i right)) there))
+      part-in right j there = rw (o .shows) (List·Memᴰ·tail (Memᴰ·append-right (numbers (part-shown rows n m path i left)) there))
 
       row-renamed :
-          Moved σ rows rows′ n′ i → ((s : Side) → hanging rows′ n′ m path (σ i) s ≡ renamed σ (hanging rows n m path i s))
+          Moved σ rows rows′ n′ i → ((s : Side) → part-shown rows′ n′ m path (σ i) s ≡ renamed σ (part-shown rows n m path i s))
           → unfolded rows′ n′ m path low (σ i) ≡ renamed σ (unfolded rows n m path low i)
       unfolding renamed
       row-renamed moved parts =
           rw (o .shows, shown-row rows′ n′ m path low (σ i) (no-damage-moved moved (o .no-damage)), parts left, parts right, moved .same-row, key)
 
-  -- where every row of a tree has moved so, the tree is the same with the other numbers
+  -- if every row of a tree has moved by σ, the tree is the same with the new numbers
   pub unfolded-renamed :
       (m path low i : ℕ) → intact (unfolded rows n m path low i) ≡ true
       → ((j : ℕ) → j ∈ numbers (unfolded rows n m path low i) → Moved σ rows rows′ n′ j)
@@ -267,8 +267,8 @@ module _ (σ : ℕ → ℕ) (none-stays : σ 0 ≡ 0) (none-else : (j : ℕ) →
       (link (rows i) s) (o .parts s)
       (λ x there. moved x (part-in (suc m) path low i o s x there))))
 
--- an unfolding depends only on its own rows, as long as they stay in use
-pub unfolded-frame :
+-- an unfolding does not change if its own rows do not change and stay in use
+unfolded-frame :
     (rows rows′ : ℕ → Row) (n n′ m path low i : ℕ) → intact (unfolded rows n m path low i) ≡ true
     → ((j : ℕ) → j ∈ numbers (unfolded rows n m path low i) → (j < n′) × (rows′ j ≡ rows j))
     → unfolded rows′ n′ m path low i ≡ unfolded rows n m path low i

@@ -1,11 +1,11 @@
--- Tests and what they test: how "or", "and" and "not" of tests test "or", "and" and "not".
+-- Tests and what they test: `||`, `&&` and `not` of tests are tests for "or", "and" and "not".
 use Prim.Native.Nat.{ℕ, _≤_, _<_}
 use mathlib.Core.Path.{_≡_, refl}
 use mathlib.Core.Logic.{_⊎_, inl, inr}
 use mathlib.Core.Bool.{Bool, true, false, not, _&&_, _||_, false≢true}
 use lib.Dec.{ltb, leb, eqb}
 use borrow.Author.Tests.{ltb-true, leb-true, eqb-true, lt-ltb, le-leb, eq-eqb}
-use Rattle.ordered.specs.Said.{Whether}
+use Rattle.ordered.specs.Source004.{Whether}
 
 module _ {A : Type 0} where
   pub fails : Whether A false → ¬ A
@@ -17,9 +17,9 @@ module _ {A : Type 0} where
   pub never : ¬ A → Whether A false
   never no-a = (λ e. absurd (false≢true e), λ a. absurd (no-a a))
 
--- the same test of what is said in other words
-pub said-so : {A B : Type 0} {b : Bool} → (A → B) → (B → A) → Whether A b → Whether B b
-said-so there back w = (λ e. there (w .0 e), λ x. w .1 (back x))
+-- a test for A is a test for every equivalent B
+pub same-test : {A B : Type 0} {b : Bool} → (A → B) → (B → A) → Whether A b → Whether B b
+same-test there back w = (λ e. there (w .0 e), λ x. w .1 (back x))
 
 pub both-tested : {A B : Type 0} (a b : Bool) → Whether A a → Whether B b → Whether (A × B) (a && b)
 both-tested true true v w = holds (v .0 refl, w .0 refl)
@@ -31,7 +31,7 @@ either-tested true b v w = holds (inl (v .0 refl))
 either-tested false true v w = holds (inr (w .0 refl))
 either-tested false false v w = never (elim [ inl x ↦ fails v x | inr y ↦ fails w y ])
 
--- "or", where the second test counts only if the first fails
+-- "or", if the second test is needed only when the first fails
 pub else-tested : {A B : Type 0} (a b : Bool) → Whether A a → (a ≡ false → Whether B b) → Whether (A ⊎ B) (a || b)
 else-tested true b v w = holds (inl (v .0 refl))
 else-tested false b v w = either-tested false b v (w refl)

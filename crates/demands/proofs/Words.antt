@@ -4,10 +4,10 @@ use mathlib.Core.Path.{refl}
 use mathlib.Core.List.{List, [], _∷_}
 use mathlib.Core.List.{List·Memᴰ·head, List·Memᴰ·tail}
 use Rattle.ordered.specs.Dictionary.{Entry, words}
-use Rattle.ordered.specs.Said.{_∈_}
+use Rattle.ordered.specs.Source004.{_∈_}
 use Rattle.ordered.proofs.Parts.{AllWords, none-all, one-all}
 
--- what holds of every word, said of the words one by one, and the other way round
+-- from all words to each one, and back
 pub each-word : (P : ℕ → Type 0) {es : List Entry} {x : ℕ} → AllWords P es → x ∈ words es → P x
 each-word P (one-all h hs) (List·Memᴰ·head e) = rw e h
 each-word P (one-all h hs) (List·Memᴰ·tail there) = each-word P hs there

@@ -1,5 +1,4 @@
--- There is a sound table for every set: one in which the rows stand in the order of the listing, "its key, then its left part, then its
--- right part".
+-- There is a sound table for every set: its rows are in the order of the listing, "its key, then its left part, then its right part".
 use Prim.Native.Nat.{ℕ, zero, suc, _+_, _*_, _^_, _≤_, _<_}
 use mathlib.Core.Path.{_≡_, refl, sym, ap, _∙_}
 use mathlib.Core.Logic.{_⊎_, inl, inr}
@@ -12,7 +11,7 @@ use lib.ListN.{length, length-append}
 use Rattle.ordered.specs.Such.{if_then_else_}
 use Rattle.ordered.specs.Word.{Side, left, right, bitOf}
 use Rattle.ordered.specs.Dictionary.{Entry, words, Increasing}
-use Rattle.ordered.specs.Said.{_∈_}
+use Rattle.ordered.specs.Source004.{_∈_}
 use Rattle.ordered.specs.Tree.{Tree, none, row, damaged, part, exists, entries, listing, size, intact, unnumbered, treeOf}
 use Rattle.ordered.specs.Proper.{Fitting, Proper}
 use Rattle.ordered.proofs.Parts.{All, none-all, all-append, each-of-all, AllWords, words-append}
@@ -23,10 +22,10 @@ use Rattle.pretree.specs.Table.{rowWords, rowAt, toCode, link}
 use Rattle.pretree.specs.Unfold.{ends-there, linked, unfolded, shown}
 use Rattle.pretree.proofs.Rows.{rowAsWords, each-in-row, row-read}
 use Rattle.demands.specs.SoundIs.{serials, EverySetHasRows}
-use Rattle.demands.proofs.Unfolding.{both, key, hanging, shown-row}
+use Rattle.demands.proofs.Unfolding.{both, key, part-shown, shown-row}
 use Rattle.demands.proofs.SoundIs.{set-fits, tree-intact, tree-entries, held-by-entries}
 
--- below a row with number k and left part l, the number of the last row before the part on side s, and that of the part's first row
+-- for a row with number k and left part l: the number of the last row before the part on side s, and of the part's first row
 abbrev before-part : Side → ℕ → Tree → ℕ
 before-part left k l = k
 before-part right k l = k + size l
@@ -48,7 +47,7 @@ written k (row i e l r) =
     rowAsWords (row-of k e l r) ++ (written (place left k l) l ++ written (place right k l) r)
 written k damaged = []
 
--- the rows of a tree stand in a table from row k on
+-- the rows of a tree are in a table from row k on
 Standing : (ℕ → Row) → ℕ → Tree → Type 0
 Standing rows k none = Unit {0}
 Standing rows k (row i e l r) = (rows k ≡ row-of k e l r) × Standing rows (place left k l) l × Standing rows (place right k l) r
@@ -62,7 +61,7 @@ written-length k (row i e l r) =
     (omega (arith, written-length (place left k l) l, written-length (place right k l) r))
 written-length k damaged = refl
 
--- they stand where they are written
+-- the rows are where they are written
 written-stands : (k : ℕ) (t : Tree) (before after : List ℕ) → length before ≡ rowWords * k → Standing (rowAt (before ++ (written k t ++ after))) k t
 unfolding written Standing
 written-stands k none before after at = tt
@@ -102,7 +101,7 @@ module _ (rows : ℕ → Row) (n : ℕ) where
 
   row-shows :
       (m path low k : ℕ) (e : Entry) (l r : Tree) → rows k ≡ row-of k e l r → k < n → Fitting m path low (e .key)
-      → ends-there m (row-of k e l r) ≡ true → ((s : Side) → unnumbered (hanging rows n m path k s) ≡ unnumbered (part s l r))
+      → ends-there m (row-of k e l r) ≡ true → ((s : Side) → unnumbered (part-shown rows n m path k s) ≡ unnumbered (part s l r))
       → unnumbered (unfolded rows n m path low k) ≡ row 0 e (unnumbered l) (unnumbered r)
   unfolding unnumbered
   row-shows m path low k e l r same in-use fits ends parts =
@@ -114,7 +113,7 @@ module _ (rows : ℕ → Row) (n : ℕ) where
         key,
       )
 
-  -- the rows of a tree that stand in a table show the tree
+  -- a table with the rows of a tree shows the tree
   standing-shows :
       (m path low k : ℕ) (t : Tree) → exists t ≡ true → Proper m path low t → Standing rows k t → k + size t ≤ n
       → unnumbered (unfolded rows n m path low k) ≡ unnumbered t
@@ -136,7 +135,7 @@ module _ (rows : ℕ → Row) (n : ℕ) where
 set-size : (W : ℕ) (S : List Entry) → Increasing (words S) → ((x : ℕ) → x ∈ words S → x < 2 ^ W) → size (treeOf W S) ≡ length S
 set-size W S rising below = sym (entries-length (treeOf W S)) ∙ ap length (set-entries W 0 0 S rising (set-fits W S below))
 
--- what the rows of a set show from row 0, where there is one
+-- what the rows of a set show from row 0, if there is a row
 root-shows :
     (W : ℕ) (S : List Entry) (rest : List ℕ) → Increasing (words S) → ((x : ℕ) → x ∈ words S → x < 2 ^ W) → exists (treeOf W S) ≡ true
     → unnumbered (unfolded (rowAt (written 0 (treeOf W S) ++ rest)) (length S) W 0 0 0) ≡ treeOf W S
@@ -154,7 +153,7 @@ table-shows zero (x ∷ xs) rest rising below = rw eqb·suc-zero (root-shows zer
 table-shows (suc W) [] rest rising below = refl
 table-shows (suc W) (x ∷ xs) rest rising below = rw eqb·suc-zero (root-shows (suc W) (x ∷ xs) rest rising below refl)
 
--- a word of a set's rows is a key, the number of a row or a serial of the set
+-- a word in the rows of a set is a key, the number of a row, or a serial of the set
 module _ (W n : ℕ) (S : List Entry) where
   abbrev Word : ℕ → Type 0
   Word w = (w < 2 ^ W) ⊎ ((w < n) ⊎ (w ∈ serials S))

@@ -1,5 +1,5 @@
--- The rows past the count stay zeros, on every table. `add` and `del` write no row that is not in use, but for the new row of `add`
--- (proofs/Owned.antt), and that one is in use after it; the row that is no longer in use after `del` is cleared.
+-- The rows past the count stay zeros, on every table. `add` and `del` write only rows in use and the new row of `add` (proofs/Owned.antt),
+-- which is in use afterwards. The row that `del` takes out of use is cleared.
 use Prim.Native.Nat.{ℕ, suc, pred, _*_, _<_, _≤_}
 use mathlib.Core.Path.{_≡_, refl, _∙_}
 use mathlib.Core.Logic.{_⊎_, inl, inr}
@@ -13,6 +13,7 @@ use Rattle.ordered.specs.Dictionary.{Entry}
 use Rattle.ordered.specs.Reading.{Reading, brokenIn}
 use Rattle.ordered.specs.Reading.{has, next, prev, gap, first, last}
 use Rattle.ordered.specs.Change.{erasing}
+use Rattle.ordered.proofs.Lists.{by-test}
 use Rattle.pretree.specs.declared.Header.{Header}
 use Rattle.pretree.specs.declared.Answer.{Answer}
 use Rattle.pretree.specs.declared.Answer.the-variants.{Distance}
@@ -32,7 +33,7 @@ use Rattle.pretree.specs.declared.Call.the-variants.{New, Add, Del, Has, Next, 
 use Rattle.pretree.specs.Call.{after}
 use Rattle.demands.specs.Refusals.{SameFrom}
 use Rattle.demands.specs.Zeros.{LaterZeros, ZerosKept}
-use Rattle.demands.proofs.Owned.{stored, stored-kept, by-test, new-kept, added, removed, added-kept, removed-kept, add-outcome, del-outcome}
+use Rattle.demands.proofs.Owned.{stored, stored-kept, new-kept, added, removed, added-kept, removed-kept, add-outcome, del-outcome}
 
 -- "it clears every row"
 cleared-word : (table : List ℕ) (w p : ℕ) → wrong-width w ≡ false → p < rowWords * capacity table → getD (newTable table w) p 0 ≡ 0
@@ -53,14 +54,14 @@ clear-row i table room =
     row-written i table (omega (arith, row-words (withRow i cleared table) i room .within, row-length i cleared table)) cleared
 
 module _ (h : Header) (table : List ℕ) (zeros : LaterZeros h table) where
-  -- the rows from number n on, where a call wrote none of them
+  -- the rows from number n on are still zeros, if a call wrote none of them
   still-zeros : (n : ℕ) → h .count ≤ n → (table′ : List ℕ) → SameFrom (rowWords * n) table table′
       → (i : ℕ) → n ≤ i → i < capacity table′ → rowAt table′ i ≡ cleared
   still-zeros n more table′ same i past room =
       same-row table table′ i (λ p from to. same .same-words p (omega arith))
       ∙ zeros i (omega arith) (omega (arith, same-capacity table′ table (same .same-length)))
 
-  -- a reply, and an outcome, after which it is so
+  -- a reply and an outcome after which the later rows are zeros
   abbrev Replied : Reply → Type 0
   Replied r = LaterZeros (r .header) table
 

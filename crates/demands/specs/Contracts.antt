@@ -1,7 +1,6 @@
--- The contract of each public function of pretree, as the code itself has it. The checker makes `F.Reads.Post` out of the `ensures` clauses
--- that stand at F in pretree/src: it is what they claim of the arguments, the result and the parameters at exit. `F.Reads.Asked` is what the
--- `requires` clauses ask of a caller, and `F.ended` is the signature. A clause that is taken out of the code is gone from here as well, and
--- `contract-is-after` is refused.
+-- The contract of each public function of pretree, as the code itself has it. The checker makes `F.Reads.Post` from the `ensures` clauses of F
+-- in pretree/src: what they claim of the arguments, the result and the parameters at exit. `F.Reads.Asked` is what the `requires` clauses ask
+-- of a caller, and `F.ended` is the signature. If a clause is removed from the code, it is missing here too, and `contract-is-after` is refused.
 -- Document 01: "Each public function states one result, one header and one content of every lent table and buffer, for all inputs including
 -- damaged ones; show that any two outcomes it allows are equal". (For the comparison of two captures, proofs/Contracts of crate `capture`.)
 use Prim.Native.Nat.{ℕ}
@@ -32,13 +31,13 @@ use Rattle.pretree.proofs.Header.last
 use Rattle.pretree.proofs.Header.audit
 use Rattle.pretree.proofs.Header.list
 
--- A contract at these arguments and this result, where the words lent as `&mut` are left as given. By the signature nothing else is left to
--- say (`tt`): every other parameter is at exit what it was.
+-- What a contract claims for these arguments and this result, if `left` is what the call leaves in the words lent as `&mut`. Every other
+-- parameter stays as it was, by the signature; its place in `left` is `tt`.
 abbrev says : (F : Ended) → ((κs : Lfts (F .signature .lifetimes)) → Args (F .signature) κs → Res (F .signature) κs → AtExit F κs → Type 0)
     → (κs : Lfts (F .signature .lifetimes)) (given : Args (F .signature) κs) → Res (F .signature) κs → Lasts F κs given → Type 0
 says F Post κs given result left = Post κs given result (atExit F κs given left)
 
--- How words are lent: where they lie, the name by which the checker follows them, and the lifetime. Every statement is for any loan.
+-- How words are lent: where they are in memory, the name by which the checker tracks them, and the lifetime. Every statement is for all loans.
 pub record Loan : Type 0 where
   pub place : ℕ × ℕ
   pub name : GName
@@ -60,7 +59,7 @@ module _ (t b : Loan) where
   abbrev two-loans : Lft × (Lft × Unit {0})
   two-loans = (t .lifetime, (b .lifetime, tt))
 
-  -- the arguments of a call: header and table, with a number, or with a buffer
+  -- the arguments of a call: header and table; and a number, two numbers or a buffer
   abbrev alone : Header → List ℕ → Header × (RefT (List ℕ) × Unit {0})
   alone h table = (h, (table-of table, tt))
 
@@ -111,7 +110,7 @@ module _ (t b : Loan) where
   Requires Audit h table buffer = audit.Reads.Asked one-loan (alone h table)
   Requires Call.List h table buffer = list.Reads.Asked two-loans (with-buffer h table buffer)
 
--- "for all inputs including damaged ones": no call asks anything of its caller
+-- "for all inputs including damaged ones": no call requires anything of its caller
 abbrev pub AsksNothing : Type 0
 AsksNothing = (t b : Loan) (c : Call) (h : Header) (table buffer : List ℕ) → Requires t b c h table buffer
 
@@ -127,14 +126,14 @@ OneOutcome =
     (t b : Loan) (c : Call) (h : Header) (table buffer : List ℕ) (x y : After)
     → Contract t b c h table buffer x → Contract t b c h table buffer y → x ≡ y
 
--- `Header::fresh`, the one public function that is no call: it asks nothing, and its contract allows the fresh header and no other
+-- `Header::fresh` is the one public function that is not a call. It requires nothing, and its contract allows only the fresh header.
 abbrev pub FreshIs : Type 0
 FreshIs = (W : ℕ) (h : Header) → fresh.Reads.Asked tt (W, tt) × (says fresh.ended fresh.Reads.Post tt (W, tt) h (tt, tt) ↔ (h ≡ fresh-header W))
 
--- a program that keeps the contracts, at every call
+-- a program that keeps the contract of every call
 abbrev pub Contracted : Program → Type 0
 Contracted p = (t b : Loan) (c : Call) (h : Header) (table buffer : List ℕ) → Contract t b c h table buffer (p c h table buffer)
 
--- A program keeps the contracts if and only if it is `after`: there is no second one.
+-- `after` is the only program that keeps the contracts.
 abbrev pub OneProgram : Type 0
 OneProgram = (p : Program) → Contracted p ↔ (p ≡ after)

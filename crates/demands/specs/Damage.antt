@@ -10,7 +10,7 @@ use mathlib.Core.List.{List, [], _∷_}
 use lib.Dec.{leb, eqb}
 use Rattle.ordered.specs.Such.{if_then_else_, Perhaps, no-such, such}
 use Rattle.ordered.specs.Word.{Side, left, right, sideOf, bitOf}
-use Rattle.ordered.specs.Said.{_∈_}
+use Rattle.ordered.specs.Source004.{_∈_}
 use Rattle.ordered.specs.Dictionary.{Entry}
 use Rattle.ordered.specs.Tree.{Tree, none, row}
 use Rattle.ordered.specs.Way.{Way, way, following}
@@ -25,8 +25,8 @@ use Rattle.pretree.specs.declared.Call.{Call}
 use Rattle.pretree.specs.declared.Call.the-variants.{New, Add, Del, Has, Next, Prev, Gap, First, Last, Audit}
 use Rattle.demands.specs.SoundIs.{HoldsSet}
 
--- The tree that the links name, from row i down with m bits left; nothing is judged. A row that two links name appears twice, so the rows are
--- numbered by their places: the root is at place 1, and below place p are 2p on the left and 2p + 1 on the right.
+-- The tree that the links name, from row i down with m bits left. Nothing is tested. If two links name the same row, it appears twice. So each
+-- row is numbered by its place in the tree: the root is at place 1, and below place p are place 2p on the left and place 2p + 1 on the right.
 unfoldable pub named-from : (ℕ → Row) → ℕ → ℕ → ℕ → Tree
 named-from rows zero p i = row p (entryOf (rows i)) none none
 named-from rows (suc m) p i =
@@ -37,13 +37,13 @@ named-from rows (suc m) p i =
 unfoldable pub named : Header → List ℕ → Tree
 named h table = if eqb (h .count) 0 then none else named-from (rowAt table) (h .width) 1 0
 
--- what the links name at a place of this tree
+-- what is at one place of this tree
 pub record Visit : Type 0 where
-  -- its row number in the table, its depth, and the bits of the path to it, as a number
+  -- the row number in the table, the depth, and the bits of the path as a number
   pub at : ℕ
   pub depth : ℕ
   pub path : ℕ
-  -- the key of the row it was reached from; the root is reached from none
+  -- the key of "the row it was reached from"; the root has none
   pub above : Perhaps ℕ
 
 abbrev pub root : Visit
@@ -58,7 +58,7 @@ below rows v s =
       above = such (rows (v .at) .entry .key);
     }
 
--- place p, at most m levels deep. The place above it is p / 2, and p is even on the left.
+-- what is at place p, which is at most m levels deep. The place above p is p / 2. On the left p is even.
 unfoldable pub visit : (ℕ → Row) → ℕ → ℕ → Visit
 visit rows zero p = root
 visit rows (suc m) p = if leb p 1 then root else below rows (visit rows m (p / 2)) (sideOf (p % 2))
@@ -82,7 +82,7 @@ pub data Damaged (h : Header) (table : List ℕ) (v : Visit) : Type 0 where
 abbrev pub DamagedAt : Header → List ℕ → ℕ → Type 0
 DamagedAt h table p = Damaged h table (visitAt h table p)
 
--- some row that the ways read is damaged. (A way over this tree goes on past a damaged row, but up to the first one it is document 01's way.)
+-- The ways read some damaged row. (A way over this tree goes on past a damaged row. Up to the first damaged row it is document 01's way.)
 abbrev pub DamageRead : Header → List ℕ → List Way → Type 0
 DamageRead h table ways = (p : ℕ) × (p ∈ readOf ways) × DamagedAt h table p
 
@@ -101,7 +101,7 @@ abbrev pub Absent : ℕ → Header → List ℕ → Type 0
 Absent k h table = ¬ Present k h table
 
 -- "If the hole is not row count−1, that last row is moved into it."
-pub record Moves (k : ℕ) (h : Header) (table : List ℕ) : Type 0 where
+pub record LastRowMoves (k : ℕ) (h : Header) (table : List ℕ) : Type 0 where
   pub present : Present k h table
   pub hole-elsewhere : ¬ (visitAt h table (erasing (h .width) k (named h table) .hole) .at ≡ pred (h .count))
 
@@ -109,7 +109,7 @@ pub record Moves (k : ℕ) (h : Header) (table : List ℕ) : Type 0 where
 abbrev pub last-key : Header → List ℕ → ℕ
 last-key h table = rowAt table (pred (h .count)) .entry .key
 
--- it ends "at row count−1 with its key"
+-- the second way ends "at row count−1 with its key"
 abbrev pub FindsLast : Header → List ℕ → Type 0
 FindsLast h table =
     (p : ℕ) × EndsAt (last-key h table) p (wayOf (last-key h table) h table) × (visitAt h table p .at ≡ pred (h .count))
@@ -124,7 +124,7 @@ unfoldable pub DamageOn : Call → Header → List ℕ → Type 0
 DamageOn (New w) h table = ⊥
 DamageOn (Add k serial) h table = DamageRead h table (adding (h .width) (entryFor k serial) (named h table) .rows-read ∷ [])
 DamageOn (Del k) h table =
-    DamageRead h table (erasing (h .width) k (named h table) .rows-read ∷ []) ⊎ (Moves k h table × SecondDamage h table)
+    DamageRead h table (erasing (h .width) k (named h table) .rows-read ∷ []) ⊎ (LastRowMoves k h table × SecondDamage h table)
 DamageOn (Has k) h table = DamageRead h table (has (h .width) k (named h table) .ways)
 DamageOn (Next k) h table = DamageRead h table (next (h .width) k (named h table) .ways)
 DamageOn (Prev k) h table = DamageRead h table (prev (h .width) k (named h table) .ways)
@@ -134,8 +134,8 @@ DamageOn Last h table = DamageRead h table (last (h .width) (named h table) .way
 DamageOn Audit h table = ⊥
 DamageOn Call.List h table = ⊥
 
--- A test: "One row 4, 0, 9 with W 4 and count 1: `has` 4 found, 1 row; `has` 8 answers 4": a link that no way follows is no damage.
--- Document 02 §1 makes it four words; the serial is 0 here
+-- A test: "One row 4, 0, 9 with W 4 and count 1: `has` 4 found, 1 row; `has` 8 answers 4". A link that no way follows is not damage.
+-- Document 02 §1 gives the row a fourth word, its serial. Here the serial is 0.
 pub record OneRow : Type 0 where
   pub has-4 : ¬ DamageOn (Has 4) (record { width = 4; count = 1 }) (4 ∷ 0 ∷ 9 ∷ 0 ∷ [])
   pub has-8 : DamageOn (Has 8) (record { width = 4; count = 1 }) (4 ∷ 0 ∷ 9 ∷ 0 ∷ [])

@@ -1,4 +1,4 @@
--- The three demands of one program, together.
+-- The three demands on one program, together.
 use Prim.Native.Nat.{ℕ, _≤_}
 use Rattle.demands.specs.Program.{Program}
 use Rattle.demands.specs.Refusals.{Demand1}

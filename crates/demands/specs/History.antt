@@ -15,8 +15,8 @@ use Rattle.demands.specs.RowsRead.{rowsOver, movedOver, refusedOver, Rep
 use Rattle.demands.specs.Demand2.{HoldsKept, empty-state, empty-kept, Throughout}
 
 module _ (program : Program) where
-  -- a call reports the rows of its ways over the PreTree of the words that the dictionary keeps at that moment. The moving count is that of
-  -- the last row's way, and which row is the last one depends on the table.
+  -- A call reports the rows of its ways over the PreTree of the words that the dictionary keeps at that moment. The moving count is that of
+  -- the last row's way. Which row is the last one depends on the table.
   abbrev pub ReportsAs : ℕ → Asked → State → Kept → Type 0
   ReportsAs room a s k =
       Reports (refusedOver (a .call) (k .width) (k .set) room (length (a .buffer))) (rowsOver (a .call) (k .width) (k .set))
@@ -33,7 +33,7 @@ module _ (program : Program) where
   HistoryFromEmpty = (cs : List Asked) (W : ℕ) (table : List ℕ) → wrong-width W ≡ false → ReportsThroughout cs (empty-state W table) (empty-kept W)
 
   -- "So two histories that end with the same words and width in tables of equal length give the same counts, save the count for moving a row
-  -- at an erase.": a history is any list of calls on an empty set, with a `new` of other widths, refusals, `audit` and `list` among them.
+  -- at an erase." A history is any list of calls from an empty set. It may have a `new` of another width, refusals, `audit` and `list`.
   -- The serials may differ.
   abbrev pub TwoHistories : Type 0
   TwoHistories =

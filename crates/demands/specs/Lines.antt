@@ -1,5 +1,5 @@
--- The line program: what it writes for an input is, line by line, what the dictionary says. So demands 2 and 3 hold of the program, from its
--- start on. Document 01: "Table of 4,096 rows, all zeros, and a `list` buffer of 4,096 words. Header at the start: W 0, count 0."
+-- The line program writes, line by line, what the dictionary answers. So demands 2 and 3 hold for the program from its start.
+-- Document 01: "Table of 4,096 rows, all zeros, and a `list` buffer of 4,096 words. Header at the start: W 0, count 0."
 use Prim.Native.Nat.{ℕ, suc}
 use mathlib.Core.Path.{_≡_}
 use mathlib.Core.Bool.{Bool, true, false}
@@ -20,11 +20,11 @@ use Rattle.lines.specs.Output.{State, start, answer, linesOf, output}
 use Rattle.demands.specs.Expected.{Kept, expected, kept-after}
 use Rattle.demands.specs.RowsRead.{rowsOver, movedOver, refusedOver}
 
--- what the dictionary keeps at the start: a width of 0, which says that there is no set yet, and the buffer
+-- what the dictionary keeps at the start: the buffer, and a width of 0, which means that there is no set yet
 abbrev pub no-set-yet : Kept
 no-set-yet = record { width = 0; set = []; buffer = replicate 4096 0 }
 
--- a call that makes a set, one that lists it, or another
+-- a call that makes a set, one that lists it, or any other
 pub data Kind : Type 0 where
   makes lists works : Kind
 
@@ -41,7 +41,7 @@ kindOf Last = works
 kindOf Audit = works
 kindOf Call.List = lists
 
--- every call but `new` wants a set
+-- every call but `new` needs a set
 abbrev pub finds-no-set : Kind → ℕ → Bool
 finds-no-set makes width = false
 finds-no-set lists width = eqb width 0
@@ -51,7 +51,7 @@ finds-no-set works width = eqb width 0
 abbrev pub noSet : ReplyFields
 noSet = record { answer = 2; key = Nothing; rows = 0; moved = 0; serial = Nothing }
 
--- what the reply line says to a call on a set: the dictionary's number, key and serial; the rows of its ways over the PreTree of the set; and the
+-- the reply line for a call on a set: the dictionary's number, key and serial; the rows of the ways over the PreTree of the set; and the
 -- moving count, which depends on the table
 abbrev pub fields-on-set : Call → State → Kept → ReplyFields
 fields-on-set c s k =
@@ -82,7 +82,8 @@ unfoldable pub kept-after-line : Line → Kept → Kept
 kept-after-line Unread k = k
 kept-after-line (Read c) k = if finds-no-set (kindOf c) (k .width) then k else kept-after c 4096 k
 
--- what is written for lines by what the dictionary says to each. Of the program's state only the line number and the table of a `del` are seen.
+-- The output that the dictionary's answers give for a list of lines. It uses only the line number of the program's state, and the header and
+-- table for the moving count of a `del`.
 unfoldable pub dictated : State → Kept → List (List ℕ) → List ℕ
 dictated s k [] = []
 dictated s k (line ∷ rest) =

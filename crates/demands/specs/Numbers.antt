@@ -1,4 +1,4 @@
--- The row numbers of a tree: which rows stand in it, how often, and the same tree with other numbers.
+-- The row numbers of a tree: which rows are in it, how often, and the same tree with other numbers.
 use Prim.Native.Nat.{ℕ, _+_}
 use mathlib.Core.List.{List, [], _∷_, _++_}
 use lib.Dec.{eqb}
@@ -11,7 +11,7 @@ numbers none = []
 numbers (row i e l r) = i ∷ (numbers l ++ numbers r)
 numbers damaged = []
 
--- how often i stands among the numbers of a list
+-- how often i is in a list
 unfoldable pub often : ℕ → List ℕ → ℕ
 often i [] = 0
 often i (x ∷ xs) = (if eqb i x then 1 else 0) + often i xs

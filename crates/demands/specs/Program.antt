@@ -1,12 +1,13 @@
--- A program under judgement, and lists of calls. The demands are stated of any program, so that a wrong one can be shown to break them
--- (proofs/ShutOut.antt). Ours is `after` of crate `pretree`: what the contracts of its functions say (`contract-is-after`, proofs/Contracts.antt).
+-- Programs, and lists of calls. The demands are stated for any program, so that it can be proved that wrong programs break them
+-- (proofs/ShutOut.antt). Our program is `after` of crate `pretree`. It is what the contracts of the functions say (`contract-is-after`,
+-- proofs/Contracts.antt).
 use Prim.Native.Nat.{ℕ}
 use mathlib.Core.List.{List, [], _∷_}
 use Rattle.pretree.specs.declared.Header.{Header}
 use Rattle.pretree.specs.declared.Call.{Call}
 use Rattle.pretree.specs.Call.{After}
 
--- what a program answers to each call, on every header, table and buffer, and what it leaves of what was lent
+-- what a program answers to each call on every header, table and buffer, and what it leaves in the table and the buffer
 abbrev pub Program : Type 0
 Program = Call → Header → List ℕ → List ℕ → After
 
@@ -15,7 +16,7 @@ pub record Asked : Type 0 where
   pub call : Call
   pub buffer : List ℕ
 
--- what lies between two calls: "one table that only our calls touch, each given the latest header"
+-- the state between two calls: "one table that only our calls touch, each given the latest header"
 pub record State : Type 0 where
   pub header : Header
   pub table : List ℕ

@@ -3,7 +3,7 @@ use Prim.Native.Nat.{ℕ, zero, suc, _+_, _*_, _-_, _^_, _≤_, _<_}
 use mathlib.Core.Path.{_≡_}
 use mathlib.Core.List.{List, [], _∷_, _++_}
 use Rattle.ordered.specs.Dictionary.{Entry, Increasing}
-use Rattle.ordered.specs.Said.{_∈_}
+use Rattle.ordered.specs.Source004.{_∈_}
 use lib.ListN.{length}
 use Rattle.pretree.specs.declared.Header.{Header}
 use Rattle.pretree.specs.declared.Reply.{Reply}
@@ -15,32 +15,32 @@ use Rattle.demands.specs.Program.{Program, Asked, State, outcome, end-st
 use Rattle.demands.specs.RowsRead.{rowsOver}
 use Rattle.demands.specs.Demand2.{Holding}
 
--- the words whose rows hang each on the right of the one before, down to depth W: with m bits left below the path p, the path and then
--- zeros, and below it the path with one bit 1 more. `chain W 0` is 0 and the 2^W − 2^(W−j) for j from 1 to W.
+-- Words whose tree is one chain of right links down to depth W. With m bits left below the path p, the first word is p followed by zeros, and
+-- the rest is the chain below the path p followed by 1. `chain W 0` is 0 and the words 2^W − 2^(W−j) for j from 1 to W.
 unfoldable pub chain : ℕ → ℕ → List ℕ
 chain zero p = p ∷ []
 chain (suc m) p = p * 2 ^ suc m ∷ chain m (p * 2 + 1)
 
--- 0, 1, the 2^(W−1) − 2^(W−j) for j from 2 to W, and 2^(W−1): a chain down to depth W on the left of the root, and one row on its right.
--- Document 01's B is the case W = 3.
+-- 0, 1, the words 2^(W−1) − 2^(W−j) for j from 2 to W, and 2^(W−1). The tree has a chain down to depth W on the left of the root, and one row
+-- on the right. Document 01's B is the case W = 3.
 unfoldable pub parted-chain : ℕ → List ℕ
 parted-chain W = 0 ∷ 1 ∷ (chain (W - 2) 1 ++ (2 ^ (W - 1) ∷ []))
 
--- 0, 1, and the 2^W − 2^(W−j) for j from 1 to W: one row on the left of the root, and a chain down to depth W on its right
+-- 0, 1, and the words 2^W − 2^(W−j) for j from 1 to W. The tree has one row on the left of the root, and a chain down to depth W on the right.
 unfoldable pub forked-chain : ℕ → List ℕ
 forked-chain W = 0 ∷ 1 ∷ chain (W - 1) 1
 
--- the set that an `add` of each word makes, with the serial 0
+-- the set made by an `add` of each word, with the serial 0
 abbrev pub entriesFor : List ℕ → List Entry
 entriesFor [] = []
 entriesFor (x ∷ xs) = entryFor x 0 ∷ entriesFor xs
 
--- the words of a set of the width W
+-- the words of a set of width W
 pub record SetOf (W : ℕ) (S : List ℕ) : Type 0 where
   pub increasing : Increasing S
   pub below : (x : ℕ) → x ∈ S → x < 2 ^ W
 
--- An `add` reads W+1 rows only where its word is there already: a row at depth W on the way of a word is the row of that word.
+-- An `add` reads W+1 rows only if its word is already there: a row at depth W on the way of a word is the row of that word.
 pub record Reached (W : ℕ) : Type 0 where
   pub a-set : SetOf W (chain W 0)
   pub has-reads : rowsOver (Has (2 ^ W - 1)) W (entriesFor (chain W 0)) ≡ W + 1
@@ -74,8 +74,8 @@ abbrev pub moving-count : Reply → ℕ
 moving-count r = r .moved
 
 module _ (program : Program) where
-  -- Calls lead there: after `new` W and an `add` of each word of S, in any state whose table has room for them, the table holds S, and there
-  -- the call c reports n by the count.
+  -- These sets can be reached by calls. After `new` W and an `add` of each word of S, in any state whose table has room, the table holds S. Then
+  -- `count` of the reply to the call c is n.
   pub record ReadAfterAdds (count : Reply → ℕ) (W : ℕ) (S : List ℕ) (c : Call) (n : ℕ) (s : State) : Type 0 where
     pub width : end-state program (making W S) s .header .width ≡ W
     pub held : Holding (end-state program (making W S) s .header) (end-state program (making W S) s .table) (entriesFor S)
@@ -84,7 +84,7 @@ module _ (program : Program) where
   abbrev pub ReadOnce : (Reply → ℕ) → ℕ → List ℕ → Call → ℕ → Type 0
   ReadOnce count W S c n = (s : State) → length S ≤ capacity (s .table) → ReadAfterAdds count W S c n s
 
-  -- at every width that a header may have
+  -- the counts reached by calls at the width W
   pub record ReachedByCalls (W : ℕ) : Type 0 where
     pub has-reads : ReadOnce rows-read W (chain W 0) (Has (2 ^ W - 1)) (W + 1)
     pub add-reads : (serial : ℕ) → ReadOnce rows-read W (chain W 0) (Add (2 ^ W - 1) serial) (W + 1)
@@ -93,10 +93,11 @@ module _ (program : Program) where
     pub last-reads : ReadOnce rows-read W (chain W 0) Last (W + 1)
     pub next-reads : 3 ≤ W → ReadOnce rows-read W (parted-chain W) (Next (2 ^ (W - 1) - 1)) (W + 2)
     pub prev-reads : 3 ≤ W → ReadOnce rows-read W (parted-chain W) (Prev (2 ^ (W - 1))) (W + 2)
-    -- Added in increasing order, the greatest word, at depth W, has the last row. The hole that 1 leaves is its own row, so the last row moves.
+    -- The words are added in increasing order, so the greatest word, at depth W, is in the last row. The hole that 1 leaves is its own row. So the
+    -- last row moves.
     pub del-moves : 2 ≤ W → ReadOnce moving-count W (forked-chain W) (Del 1) (W + 1)
 
-  -- n bounds a count that a kind of call reports at the width W, in tables that hold a set
+  -- n bounds a count that a kind of call reports at the width W, on tables that hold a set
   abbrev pub Bounds : (Reply → ℕ) → (ℕ → Call) → ℕ → ℕ → Type 0
   Bounds count call W n =
       (k : ℕ) (h : Header) (table buffer : List ℕ) (S : List Entry) → Holding h table S → h .width ≡ W → count (program (call k) h table buffer .reply) ≤ n
@@ -107,8 +108,8 @@ module _ (program : Program) where
     pub no-lower : (n : ℕ) → Bounds count call W n → m ≤ n
 
   -- "Finding, adding, first and last read at most W+1 rows, next and previous at most W+2. An erase reads at most W+1, with at most W+1 more
-  -- for the move. For each W from 3 to 32 some set makes a next and some set a previous read W+2." `first` reads the root alone. No row moves
-  -- at the width 1, where a set has two words at most: a move takes three rows.
+  -- for the move. For each W from 3 to 32 some set makes a next and some set a previous read W+2." `first` reads only the root. No row moves at
+  -- the width 1: a set has at most two words there, and a move needs three rows.
   pub record LeastBounds (W : ℕ) : Type 0 where
     pub has-bound : LeastBound rows-read Has W (W + 1)
     pub add-bound : (serial : ℕ) → LeastBound rows-read (λ k. Add k serial) W (W + 1)

@@ -1,5 +1,6 @@
 -- Demand 1. Document 01: "1 to 6 and 9 are refusals: counts 0, header, table and buffer untouched. 7 and 8 report their true counts and
--- change nothing." Document 02 §1 "amends document 01's rule that 7 changes nothing". Document 01: "Order: 9, 1, 2, 3, 4, then 7 or 8, then 5. For `list`: 2, 4, 6." (9 is the program's, not a call's.)
+-- change nothing." Document 02 §1 "amends document 01's rule that 7 changes nothing". Document 01: "Order: 9, 1, 2, 3, 4, then 7 or 8, then 5.
+-- For `list`: 2, 4, 6." (Only the line program gives 9, no call does.)
 use Prim.Native.Nat.{ℕ, _*_, _^_, _≤_, _<_}
 use mathlib.Core.Path.{_≡_}
 use mathlib.Core.Logic.{_↔_, _⊎_}
@@ -21,7 +22,8 @@ use Rattle.pretree.specs.Call.{After}
 use Rattle.demands.specs.Program.{Program}
 use Rattle.demands.specs.Damage.{DamageOn, Absent}
 
--- the ways of a call, whose rows are its count; the second way of `del` has a count of its own, and the other calls go no way
+-- The ways of a call; their rows are its count. The second way of `del` is not among them, because it has a separate count. `new`, `audit` and
+-- `list` have no ways.
 unfoldable pub waysOf : Call → Header → List ℕ → List Way
 waysOf (New W) h table = []
 waysOf (Add k serial) h table = adding (h .width) (entryFor k serial) (shown h table) .rows-read ∷ []
@@ -51,7 +53,7 @@ Too-wide h k = 2 ^ h .width ≤ k
 abbrev pub Full : ℕ → Header → List ℕ → Type 0
 Full k h table = Absent k h table × (h .count ≡ capacity table)
 
--- a check that a call makes: a refusal's number, and what it is given for
+-- a check that a call makes: the number of a refusal, and the condition for it
 infix 70 _when_
 pub record Check : Type 1 where
   pub number : ℕ
@@ -60,7 +62,7 @@ pub record Check : Type 1 where
 abbrev pub _when_ : ℕ → Type 0 → Check
 n when P = record { number = n; condition = P }
 
--- the checks of header and table, in their order; every call but `new` makes them first
+-- the check of header and table. Every call but `new` makes it first.
 abbrev pub header-checks : Header → List ℕ → List Check
 header-checks h table = 2 when Wrong-header h table ∷ []
 
@@ -89,15 +91,15 @@ pub record Refusal (n : ℕ) : Type 0 where
   pub from-one : 1 ≤ n
   pub to-six : n ≤ 6
 
--- what was lent is as it was, and so is the header, and nothing was moved
+-- header, table and buffer are as they were, and nothing was moved
 pub record Untouched (h : Header) (table buffer : List ℕ) (a : After) : Type 0 where
   pub same-header : a .reply .header ≡ h
   pub same-table : a .table ≡ table
   pub same-buffer : a .buffer ≡ buffer
   pub none-moved : a .reply .moved ≡ 0
 
--- "An `add` of a word already there still answers 7, but now stores the new serial. [..] header, keys and links stay." One word of the table may
--- change: the serial of the row of k, at which the way of k ends.
+-- "An `add` of a word already there still answers 7, but now stores the new serial. [..] header, keys and links stay." Only one word of the
+-- table may change: the serial of the row at which the way of k ends.
 pub record Stored (k serial : ℕ) (h : Header) (table buffer : List ℕ) (a : After) : Type 0 where
   pub row : ℕ
   pub on-the-way : numberAt (way (following k) (h .width) (shown h table) .end) ≡ row
@@ -121,7 +123,7 @@ SerialStored Last h table buffer a = ⊥
 SerialStored Audit h table buffer a = ⊥
 SerialStored Call.List h table buffer a = ⊥
 
--- no word from number n on is another, and there are as many words
+-- both have the same length, and are equal from word n on
 pub record SameFrom (n : ℕ) (words words′ : List ℕ) : Type 0 where
   pub same-length : length words′ ≡ length words
   pub same-words : (i : ℕ) → n ≤ i → getD words′ i 0 ≡ getD words i 0
@@ -131,7 +133,7 @@ module _ (program : Program) where
   numberAfter c h table buffer = numberOf (program c h table buffer .reply .answer)
 
   pub record Refusals (c : Call) (h : Header) (table buffer : List ℕ) : Type 0 where
-    -- each refusal number is given exactly where document 01 says
+    -- each refusal is given exactly when document 01 says
     pub given-exactly : (n : ℕ) → Refusal n → (numberAfter c h table buffer ≡ n) ↔ FirstGiven (checks c h table buffer) n
     -- "counts 0, header, table and buffer untouched"
     pub refusal :
@@ -141,9 +143,9 @@ module _ (program : Program) where
     pub true-counts :
         (numberAfter c h table buffer ≡ 7) ⊎ (numberAfter c h table buffer ≡ 8)
         → program c h table buffer .reply .rows ≡ rowsOf (waysOf c h table)
-    -- 8 changes nothing,
+    -- 8 changes nothing
     pub eight : numberAfter c h table buffer ≡ 8 → Untouched h table buffer (program c h table buffer)
-    -- and 7 stores the new serial and changes nothing else
+    -- 7 stores the new serial and changes nothing else
     pub seven : numberAfter c h table buffer ≡ 7 → SerialStored c h table buffer (program c h table buffer)
     -- "Words past the last whole row, or past that limit, are never changed."
     pub past-the-rows : SameFrom (rowWords * capacity table) table (program c h table buffer .table)

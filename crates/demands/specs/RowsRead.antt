@@ -24,7 +24,7 @@ use Rattle.pretree.specs.declared.Call.the-variants.{New, Add, Del, Has, Next, 
 use Rattle.demands.specs.Program.{Program}
 use Rattle.demands.specs.SoundIs.{HoldsSet}
 
--- the rows of the ways of a call over the PreTree of the words of S. "`new` reads no row"; `audit` and `list`: "Both count `count` rows."
+-- The rows of the ways of a call over the PreTree of S. "`new` reads no row"; `audit` and `list`: "Both count `count` rows."
 unfoldable pub rowsOver : Call → ℕ → List Entry → ℕ
 rowsOver (New w) W S = 0
 rowsOver (Add k serial) W S = rows (adding W (entryFor k serial) (treeOf W S) .rows-read)
@@ -38,7 +38,7 @@ rowsOver Last W S = rowsOf (last-over W (treeOf W S) .ways)
 rowsOver Audit W S = length S
 rowsOver Call.List W S = length S
 
--- whether the last row moves at a `del` of k: the word is there, and "the hole is not row count−1"
+-- whether a `del` of k moves the last row: the word is there, and "the hole is not row count−1"
 unfoldable pub moves : Header → List ℕ → List Entry → ℕ → Bool
 moves h table S k = isThere (lookup k S) && not (eqb (erasing (h .width) k (shown h table) .hole) (pred (h .count)))
 
@@ -59,7 +59,8 @@ movedOver Last h table S = 0
 movedOver Audit h table S = 0
 movedOver Call.List h table S = 0
 
--- what a call is refused for on a table that holds S, with room for so many rows, and a buffer of so many words: 1, 3, 5 and 6 alone
+-- Whether a call is refused on a table that holds S. `room` is the capacity and `space` is the length of the buffer. Only the refusals 1, 3,
+-- 5 and 6 can occur.
 unfoldable pub refusedOver : Call → ℕ → List Entry → ℕ → ℕ → Bool
 refusedOver (New w) W S room space = wrong-width w
 refusedOver (Add k serial) W S room space = leb (2 ^ W) k || (not (isThere (lookup k S)) && eqb (length S) room)
@@ -73,25 +74,26 @@ refusedOver Last W S room space = false
 refusedOver Audit W S room space = false
 refusedOver Call.List W S room space = ltb space (length S)
 
--- "1 to 6 and 9 are refusals"; 9 is the line program's
+-- "1 to 6 and 9 are refusals"; only the line program gives 9
 abbrev pub isRefusal : ℕ → Bool
 isRefusal n = ltb 0 n && ltb n 7
 
--- what a reply reports: these counts, and "counts 0" with a number of a refusal
+-- A reply reports these counts; or it is a refusal, with "counts 0".
 pub record Reports (refused : Bool) (read moving : ℕ) (r : Reply) : Type 0 where
   pub number : isRefusal (numberOf (r .answer)) ≡ refused
   pub rows-read : r .rows ≡ (if refused then 0 else read)
   pub moving-count : r .moved ≡ (if refused then 0 else moving)
 
 module _ (program : Program) where
-  -- on every table that holds a set, the counts are those of the ways over the set's PreTree
+  -- On every table that holds a set, the counts are those of the ways over the set's PreTree.
   abbrev pub RowsExact : Type 0
   RowsExact =
       (c : Call) (h : Header) (table buffer : List ℕ) (S : List Entry) → wrong-header h table ≡ false → HoldsSet h table S
       → Reports (refusedOver c (h .width) S (capacity table) (length buffer)) (rowsOver c (h .width) S) (movedOver c h table S)
       (program c h table buffer .reply)
 
-  -- two tables of equal length that hold the same words at the same width, whatever their row numbers and serials, give the same rows read
+  -- Two tables of equal length that hold the same words at the same width give the same counts of rows read. Their row numbers and serials may
+  -- differ.
   abbrev pub RowsAlike : Type 0
   RowsAlike =
       (c : Call) (h h′ : Header) (table table′ buffer buffer′ : List ℕ) (S S′ : List Entry)
@@ -113,7 +115,7 @@ mostRows Last h = h .width + 1
 mostRows Audit h = h .count
 mostRows Call.List h = h .count
 
--- and the most that it reads for a move
+-- the most rows that a call reads for a move
 unfoldable pub mostMoved : Call → Header → ℕ
 mostMoved (New w) h = 0
 mostMoved (Add k serial) h = 0
@@ -131,7 +133,7 @@ pub record AtMost (read moving : ℕ) (r : Reply) : Type 0 where
   pub few-read : r .rows ≤ read
   pub few-moved : r .moved ≤ moving
 
--- on every header, table and buffer, right or wrong, sound or damaged
+-- The bounds hold on every header, table and buffer, right or wrong, sound or damaged.
 abbrev pub RowsBounded : Program → Type 0
 RowsBounded program =
     (c : Call) (h : Header) (table buffer : List ℕ) → AtMost (mostRows c h) (mostMoved c h) (program c h table buffer .reply)

@@ -18,6 +18,6 @@ pub record ShutOut (program : Program) : Type 0 where
       ((c : Call) (h : Header) (table buffer : List ℕ) → Refusal (numberOf (program c h table buffer .reply .answer))) → ¬ Demand2 program
   pub replies-alike : (r : Reply) → ((c : Call) (h : Header) (table buffer : List ℕ) → program c h table buffer .reply ≡ r) → ¬ Demand2 program
   pub never-changes-the-table : ((c : Call) (h : Header) (table buffer : List ℕ) → program c h table buffer .table ≡ table) → ¬ Demand2 program
-  -- a program that hands back the header it was given works at its first call: the next one knows of no word that this one added
+  -- A program that returns the header it was given works only at its first call: the next call does not know of a word that was added.
   pub first-call-alone : ((c : Call) (h : Header) (table buffer : List ℕ) → program c h table buffer .reply .header ≡ h) → ¬ Demand2 program
   pub invents-its-counts : (n : ℕ) → ((c : Call) (h : Header) (table buffer : List ℕ) → program c h table buffer .reply .rows ≡ n) → ¬ RowsExact program

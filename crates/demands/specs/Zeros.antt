@@ -1,4 +1,4 @@
--- The rows past the count, on every table, damaged ones too.
+-- The rows past the count stay zeros, on every table, also on a damaged one.
 -- Document 01: "Rows in use are 0 to count−1. All later rows up to capacity hold three zeros after `new`, and our calls keep it so."
 use Prim.Native.Nat.{ℕ, _<_, _≤_}
 use mathlib.Core.Path.{_≡_}
@@ -18,7 +18,7 @@ pub record ZerosKept (program : Program) : Type 0 where
   pub after-new :
       (w : ℕ) (h : Header) (table buffer : List ℕ) → wrong-width w ≡ false
       → LaterZeros (program (New w) h table buffer .reply .header) (program (New w) h table buffer .table)
-  -- whatever stands in the rows in use, and whatever the header
+  -- whatever is in the rows in use, and whatever the header is
   pub kept-so :
       (c : Call) (h : Header) (table buffer : List ℕ) → LaterZeros h table
       → LaterZeros (program c h table buffer .reply .header) (program c h table buffer .table)

@@ -1,1 +1,1 @@
-// Mathematics only: the promises stand in specs/, their proofs in proofs/.
+// Mathematics only: the promises are in specs/, their proofs in proofs/.

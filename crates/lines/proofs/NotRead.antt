@@ -9,7 +9,7 @@ use borrow.Author.Tests.{eq-eqb, eqb-true, le-ltb, ltb-true, ltb-false}
 use lib.Dec.{T, ltb, eqb}
 use lib.ListN.{length, take, drop, take-append-drop}
 use Rattle.ordered.specs.Such.{if_then_else_, Perhaps, no-such, such}
-use Rattle.ordered.specs.Said.{_∈_}
+use Rattle.ordered.specs.Source004.{_∈_}
 use Rattle.pretree.specs.declared.Answer.{Answer}
 use Rattle.pretree.specs.declared.Answer.the-variants.{Done, Serial, Word, Distance, WrongWidth, WrongHeader, WordTooWide, Damage, Full, ShortBuffer, AlreadyThere, NoSuchWord}
 use Rattle.pretree.specs.Answer.{numberOf}

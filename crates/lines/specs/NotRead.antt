@@ -8,7 +8,7 @@ use mathlib.Core.Path.{_≡_}
 use mathlib.Core.List.{List, [], _++_}
 use mathlib.Core.Logic.{_↔_}
 use lib.ListN.{length}
-use Rattle.ordered.specs.Said.{_∈_}
+use Rattle.ordered.specs.Source004.{_∈_}
 use Rattle.pretree.specs.declared.Call.{Call}
 use Rattle.numbers.specs.declared.Number.the-variants.{Nothing}
 use Rattle.numbers.specs.Decimal.{SpellsNumber}

@@ -1,4 +1,5 @@
--- The answers of the calls: on a proper tree with m bits left, for a word on its path, they are the dictionary's on the entries of the tree.
+-- The reading calls answer as the dictionary does: on a proper tree with m bits left, for a word on its path, each answer is the dictionary's
+-- answer on the entries of the tree.
 use Prim.Native.Nat.{ℕ, zero, suc, _+_, _*_, _/_, _^_}
 use mathlib.Core.Path.{_≡_, refl, sym, ap, ap₂, _∙_}
 use mathlib.Core.Bool.{Bool, true, false, _||_}
@@ -12,7 +13,7 @@ use Rattle.ordered.specs.Dictionary.{Entry, words, wordOf, lookup, min, 
 use Rattle.ordered.specs.Tree.{Tree, none, row, damaged, part, exists, entries}
 use Rattle.ordered.specs.Proper.{Proper}
 use Rattle.ordered.specs.Way.{Step, Way, stop, to, way, turning, isDamaged, joined, following, passing-equal, pushing, down, staying}
-use Rattle.ordered.specs.Reading.{Found, wordIn, entryIn, root-row, end-row, end-if, has, right-left-aside, right-child, next-by, next, prev-by, prev, first, last, nearest, gap-by, gap}
+use Rattle.ordered.specs.Reading.{Found, wordIn, entryIn, root-row, end-row, end-if, has, skipped-right, right-child, next-by, next, prev-by, prev, first, last, nearest, gap-by, gap}
 use Rattle.ordered.specs.Change.{ends-at, adding-by, adding, erasing-by, erasing}
 use Rattle.ordered.proofs.Parts.{All, AllWords, none-all, one-all, all-map, above-all, first-of-no-such, first-of-such, first-such-append, last-such-append, same-last, no-last, If-such, last-such-all, last-such-one, first-between, last-between, no-lookup, lookup-between}
 use Rattle.ordered.proofs.OneTree.{by-rows, proper-intact}
@@ -27,7 +28,7 @@ part-sound s h σ =
     let path : ℕ = s .entry .key / 2 ^ suc (s .below) * 2 + bitOf σ in
     not-damaged (s .below) path (suc (s .entry .key)) (part σ (s .left-part) (s .right-part)) (h σ)
 
--- what the end of a way says of a word: that it is there, the first word above it, that no word is below it
+-- what the root of the part where a way ends tells about a word: that it is there, that it is the first word above, or that no word is below
 abbrev root-if : (ℕ → Bool) → ℕ → Tree → Perhaps Found
 root-if test m t = only-if (λ f. test (wordIn f)) (root-row m t)
 
@@ -84,7 +85,7 @@ pub first-answer : (m : ℕ) (t : Tree) → entryIn (first m t .answer) ≡ min 
 unfolding first
 first-answer m t = rw (staying-end m t) (min-here m t)
 
--- an empty link has no entries, a row has some
+-- an empty link has no entries, and a row has at least one
 void : (t : Tree) → exists t ≡ false → entries t ≡ []
 unfolding entries
 void none e = refl
@@ -97,7 +98,7 @@ filled none sound there q = cc
 filled (row i e l r) sound there q = first-of-such (last-such anything (entries l ++ entries r)) e q
 filled damaged sound there q = cc
 
--- the last entry of a row: that of its right part, else that of its left part, else its own
+-- the last entry of a tree: the last of the right part, else the last of the left part, else the root's own
 module _ (own : Entry) (l r : Tree) where
   max-row : max (own ∷ (entries l ++ entries r)) ≡ first-of (first-of (max (entries r)) (max (entries l))) (such own)
   unfolding max last-such
@@ -144,7 +145,7 @@ pub last-answer : (m path low : ℕ) (t : Tree) → Proper m path low t → entr
 unfolding last
 last-answer m path low t h = last-entry m path low t h
 
--- what is read at the right child of a row
+-- the entry of the right child of a row
 child : Perhaps Step → Perhaps Entry
 child no-such = no-such
 child (such s) = entryIn (root-row (s .below) (s .right-part))
@@ -160,8 +161,8 @@ rooted m none sound there q = cc
 rooted m (row i e l r) sound there q = refl
 rooted m damaged sound there q = cc
 
--- the least entry that lies right of a way: "the deepest row where the way went left and a right link exists; its right child"
-upper-min : (ss : List Step) → All Proper-step ss → min (upper ss) ≡ child (last-such right-left-aside ss)
+-- the least entry to the right of a way is at "the deepest row where the way went left and a right link exists; its right child"
+upper-min : (ss : List Step) → All Proper-step ss → min (upper ss) ≡ child (last-such skipped-right ss)
 unfolding min upper last-such first-such child entries
 upper-min [] none-all = refl
 upper-min (s ∷ ss) (one-all h hs) =
@@ -170,19 +171,19 @@ upper-min (s ∷ ss) (one-all h hs) =
       upper-min ss hs,
       here (s .below) (s .at) (s .entry) (s .left-part) (s .right-part) (s .turn) (part-sound s h right),
     )
-    (deepest (last-such right-left-aside ss) (last-such-all right-left-aside hs))
+    (deepest (last-such skipped-right ss) (last-such-all skipped-right hs))
   where
     own : Perhaps Step
-    own = only-if right-left-aside (such s)
+    own = only-if skipped-right (such s)
 
     here : (m i : ℕ) (e : Entry) (l r : Tree) (turn : Side) → isDamaged r ≡ false
-        → first-such anything (right-aside turn r) ≡ child (only-if right-left-aside (such (step m i e l r turn)))
+        → first-such anything (right-aside turn r) ≡ child (only-if skipped-right (such (step m i e l r turn)))
     here m i e l none left sound = refl
     here m i e l (row j g a b) left sound = refl
     here m i e l damaged left sound = cc
     here m i e l r right sound = refl
 
-    deepest : (p : Perhaps Step) → If-such (λ u. Proper-step u × (right-left-aside u ≡ true)) p
+    deepest : (p : Perhaps Step) → If-such (λ u. Proper-step u × (skipped-right u ≡ true)) p
         → first-of (child p) (child own) ≡ child (first-of p own)
     deepest no-such found = refl
     deepest (such u) found =
@@ -193,8 +194,8 @@ next-by-answer : (w : Way) (q : Perhaps Found) (p : Perhaps Step) → entryIn (n
 next-by-answer w no-such p = child-read p
 next-by-answer w (such x) p = refl
 
--- the greatest entry that lies left of a way, by its last row p: "If the way turned right at p and p has a left child, go down from that
--- child, [..] Otherwise p."
+-- the greatest entry to the left of a way, given the last row p that it passed: "If the way turned right at p and p has a left child, go
+-- down from that child, [..] Otherwise p."
 prior : Perhaps Step → Perhaps Entry
 prior no-such = no-such
 prior (such p) = first-of (max (left-aside (p .turn) (p .left-part))) (such (p .entry))
@@ -229,7 +230,7 @@ prev-by-answer w (such p) h = at-step (p .below) (p .at) (p .entry) (p .left-par
         last-entry m path (suc (e .key)) (row j g a b) (h left) ∙ sym (filled (row j g a b) refl refl (such e))
     at-step m i e damaged r right h = let broken : true ≡ false = part-sound (step m i e damaged r right) h left in cc
 
--- what was found is there if its entry is, and its word is that of the entry
+-- a found row and its entry: one is there if the other is, and they have the same word
 pub there-entry : (q : Perhaps Found) → isThere (entryIn q) ≡ isThere q
 there-entry no-such = refl
 there-entry (such f) = refl
@@ -238,7 +239,7 @@ pub word-entry : (q : Perhaps Found) → its wordIn q ≡ wordOf (entryIn q)
 word-entry no-such = refl
 word-entry (such f) = refl
 
--- `add` and `del` find the word where its way ends at it
+-- `add` and `del` find the word if its way ends at it
 pub adding-finds : (m : ℕ) (e : Entry) (t : Tree) → adding m e t .present ≡ ends-at (e .key) (way (following (e .key)) m t)
 unfolding adding
 adding-finds m e t = either (way (following (e .key)) m t) (ends-at (e .key) (way (following (e .key)) m t))
@@ -285,7 +286,7 @@ module _ (m k path low : ℕ) (t : Tree) (on : k / 2 ^ m ≡ path) (h : Proper m
         end-first (w .bits) k (found .ends),
         upper-min (w .passed) (passed-proper (passing-equal k) m t path low h),
       )
-      (next-by-answer w (end-if (ltb k) w) (last-such right-left-aside (w .passed)))
+      (next-by-answer w (end-if (ltb k) w) (last-such skipped-right (w .passed)))
 
   -- "greatest word less than k": "the way of k. Let p be its last row with key below k."
   pub prev-answer : entryIn (prev m k t .answer) ≡ predecessor k (entries t)
@@ -316,7 +317,7 @@ module _ (m k path low : ℕ) (t : Tree) (on : k / 2 ^ m ≡ path) (h : Proper m
       either no-such =
           ap₂ (nearest k) (word-entry (prev m k t .answer) ∙ ap wordOf prev-answer) (word-entry (next m k t .answer) ∙ ap wordOf next-answer)
 
-  -- `add` and `del` find the word if it is there
+  -- the way of k ends at k if k is in the tree
   pub ends-there : ends-at k (way (following k) m t) ≡ isThere (lookup k (entries t))
   unfolding has
   ends-there = sym (there-entry (has m k t .answer)) ∙ ap isThere has-answer

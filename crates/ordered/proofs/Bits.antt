@@ -1,4 +1,4 @@
--- The laws of words and their bits: the bits of a path, the next bit, and the order of words by their paths.
+-- Laws of words and their bits: the bits of a path, the next bit, and the order of words by their paths.
 use Prim.Native.Nat.{ℕ, zero, suc, _+_, _*_, _/_, _%_, _^_, _≤_, _<_}
 use mathlib.Core.Path.{_≡_, refl}
 use mathlib.Core.Logic.{_↔_}
@@ -8,7 +8,6 @@ use native.Mathlib.Omega.{arith}
 use lib.Pow.{pow-pos, shr-shr, shr-mono}
 use Rattle.ordered.specs.Word.{Side, left, right, sideOf, bitOf, side}
 
--- a bit is that of the side to which it goes
 bit-of-side : (b : ℕ) → b < 2 → bitOf (sideOf b) ≡ b
 bit-of-side zero h = refl
 bit-of-side (suc b) h = omega arith
@@ -23,11 +22,11 @@ bit-small : (s : Side) → bitOf s < 2
 bit-small left = omega arith
 bit-small right = omega arith
 
--- one bit less
+-- the path one bit shorter
 shorter : (m k : ℕ) → k / 2 ^ m / 2 ≡ k / 2 ^ suc m
 shorter m k = rw (← add-one m) (shr-shr k m 1)
 
--- the path of a word is its path one row above, and then its deciding bit there
+-- the path of a word is its path one row above, followed by its deciding bit there
 pub next-bit : (m k : ℕ) → k / 2 ^ m ≡ (k / 2 ^ suc m) * 2 + bitOf (side m k)
 unfolding side
 next-bit m k =
@@ -35,11 +34,11 @@ next-bit m k =
     rw (bit-of-side, ← shorter m k) (omega arith)
 
 module _ (m k path : ℕ) (s : Side) where
-  -- so a word is on the path of a part if it is on that of the row and its deciding bit is that of the side
+  -- a word is on the path of a part if it is on the path of the row and its deciding bit goes to that side
   pub to-part : k / 2 ^ suc m ≡ path → side m k ≡ s → k / 2 ^ m ≡ path * 2 + bitOf s
   to-part above turn = cc (next-bit m k)
 
-  -- and only if
+  -- and only then
   pub from-part : k / 2 ^ m ≡ path * 2 + bitOf s → k / 2 ^ suc m ≡ path
   from-part on = omega (arith, next-bit m k, bit-small s, bit-small (side m k))
 
@@ -50,11 +49,11 @@ module _ (m k path : ℕ) (s : Side) where
 pub by-paths : (m j k : ℕ) → j / 2 ^ m < k / 2 ^ m → j < k
 by-paths m j k h = lt-of-not-le (λ (over : k ≤ j). omega (arith, shr-mono m over))
 
--- words on the path of a left part are below those on the path of the right part beside it
+-- words on the path of a row's left part are less than words on the path of its right part
 pub left-below-right : (m path j k : ℕ) → j / 2 ^ m ≡ path * 2 + bitOf left → k / 2 ^ m ≡ path * 2 + bitOf right → j < k
 left-below-right m path j k on-left on-right = by-paths m j k (omega arith)
 
--- of two words on the path of a row the one that goes left is below the one that goes right
+-- of two words on the path of a row, the one that goes left is less than the one that goes right
 pub by-sides : (m j k : ℕ) → j / 2 ^ suc m ≡ k / 2 ^ suc m → side m j ≡ left → side m k ≡ right → j < k
 by-sides m j k same goes-left goes-right =
     let path : ℕ = k / 2 ^ suc m in
@@ -64,7 +63,7 @@ by-sides m j k same goes-left goes-right =
 pub whole-path : (k : ℕ) → k / 2 ^ 0 ≡ k
 whole-path k = div-one k
 
--- the words of W bits are those on the root's path
+-- a word has W bits if and only if it is on the root's path
 pub on-root-path : (W k : ℕ) → k < 2 ^ W ↔ k / 2 ^ W ≡ 0
 on-root-path W k = (λ small. div-eq-of-lt small, λ on. small on)
   where

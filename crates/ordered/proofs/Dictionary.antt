@@ -1,5 +1,5 @@
--- The operations of the ordered dictionary do what source 004 says of them, in its order, about the words of the set; and its words fix each
--- answer, and the words of a set.
+-- The operations of the ordered dictionary do what source 004 says (specs/Source004.antt), in the source's order. What the source says allows
+-- one answer only, and a set is determined by its elements.
 use Prim.Native.Nat.{ℕ, _<_}
 use mathlib.Core.Path.{_≡_, refl, sym, ap, ap₂, subst, _∙_}
 use mathlib.Core.Logic.{_↔_, _⊎_, inl, inr, ⊎-elim, ⊎-swap, Iff·symm, Iff·trans}
@@ -13,19 +13,19 @@ use borrow.Author.Tests.{eqb-true, eqb-false, eq-eqb, ne-eqb}
 use Rattle.ordered.specs.Such.{if_then_else_, Perhaps, no-such, such, its, isThere, first-of, only-if, first-such, last-such, anything}
 use Rattle.ordered.specs.Dictionary.{Entry, words, wordOf, Above, none-above, one-above, Increasing, none-increasing, one-increasing}
 use Rattle.ordered.specs.Dictionary.{insert, is-empty, lookup, delete, max, min, successor, predecessor}
-use Rattle.ordered.specs.Said.{_∈_, Adds, Whether, Removes, Foremost, it-is, none-is, Least, Greatest}
+use Rattle.ordered.specs.Source004.{_∈_, Adds, Whether, Removes, Foremost, it-is, none-is, Least, Greatest}
 use Rattle.ordered.proofs.Lists.{by-test, by-order, cons-elements, append-elements}
 use Rattle.ordered.proofs.Lists.{above-less, less-above, above-smaller, head-least}
 
--- an element is added by leaving the set as it is
+-- adding a word that is an element leaves the set as it is
 element-adds : {x : ℕ} {s : List ℕ} → x ∈ s → Adds x s s
 element-adds m y = (λ n. inr n, ⊎-elim (λ e. Memᴰ·cast e m) (λ n. n))
 
--- and so is the head where an equal word takes its place
+-- adding a word that is equal to the head
 head-adds : {x y : ℕ} {s : List ℕ} → x ≡ y → Adds x (y ∷ s) (x ∷ s)
 head-adds {x} {s} same = subst (λ y. Adds x (y ∷ s) (x ∷ s)) same (element-adds (List·Memᴰ·head refl))
 
--- a word is added to a set by adding it to the tail
+-- adding a word to the tail adds it to the set
 tail-adds : {x : ℕ} (y : ℕ) {s t : List ℕ} → Adds x s t → Adds x (y ∷ s) (y ∷ t)
 tail-adds {x} y {s} {t} h z = (
   λ m. there (List·Memᴰ·cases-cons m),
@@ -50,7 +50,7 @@ insert-adds e (f ∷ s) =
     (λ equal. head-adds equal)
     (λ greater. tail-adds (f .key) (insert-adds e s))
 
--- and leaves a set
+-- the result is a set again
 pub insert-increasing : (e : Entry) (s : List Entry) → Increasing (words s) → Increasing (words (insert e s))
 unfolding insert
 insert-increasing e [] none-increasing = one-increasing none-above none-increasing
@@ -69,12 +69,12 @@ unfolding is-empty
 is-empty-whether [] = (λ e. refl, λ e. refl)
 is-empty-whether (e ∷ s) = (λ q. absurd (false≢true q), λ q. cc)
 
--- whether one of two things holds
+-- `||` tests for "or"
 whether-either : {P Q : Type 0} (b c : Bool) → Whether P b → Whether Q c → Whether (P ⊎ Q) (b || c)
 whether-either true c h k = (λ e. inl (h .0 refl), λ d. refl)
 whether-either false c h k = (λ e. inr (k .0 e), ⊎-elim (λ d. absurd (false≢true (h .1 d))) (k .1))
 
--- the first of two is there if one of them is
+-- `first-of` gives something if one of the two is there
 there-either : (b : Bool) (e : Entry) (q : Perhaps Entry) → isThere (first-of (if b then such e else no-such) q) ≡ (b || isThere q)
 there-either true e q = refl
 there-either false e q = refl
@@ -87,14 +87,14 @@ lookup-whether x (e ∷ s) =
     rw (there-either (eqb x (e .key)) e (lookup x s))
     (Iff·trans (whether-either (eqb x (e .key)) (isThere (lookup x s)) (eqb-true x (e .key), eq-eqb x (e .key)) (lookup-whether x s)) (Iff·symm cons-elements))
 
--- x is removed from a set with x at its head by removing it from the tail
+-- removing x where x is the head
 head-removes : {x y : ℕ} {s t : List ℕ} → x ≡ y → Removes x s t → Removes x (y ∷ s) t
 head-removes q h z = (
   λ m. (List·Memᴰ·tail (h z .0 m .0), h z .0 m .1),
   λ k. ⊎-elim (λ e. absurd (k .1 (cc))) (λ m. h z .1 (m, k .1)) (List·Memᴰ·cases-cons (k .0)),
 )
 
--- and from a set with another head
+-- removing x where the head is another word
 tail-removes : {x y : ℕ} {s t : List ℕ} → (x ≡ y → ⊥) → Removes x s t → Removes x (y ∷ s) (y ∷ t)
 tail-removes n h z = (
   λ m. ⊎-elim (λ e. (List·Memᴰ·head e, λ q. n (cc))) (λ k. (List·Memᴰ·tail (h z .0 k .0), h z .0 k .1)) (List·Memᴰ·cases-cons m),
@@ -110,7 +110,7 @@ delete-removes x (e ∷ s) =
     (λ q. head-removes (eqb-true x (e .key) q) (delete-removes x s))
     (λ d. tail-removes (eqb-false x (e .key) d) (delete-removes x s))
 
--- and leaves a set
+-- the result is a set again
 pub delete-increasing : (x : ℕ) (s : List Entry) → Increasing (words s) → Increasing (words (delete x s))
 unfolding delete
 delete-increasing x [] none-increasing = none-increasing
@@ -121,7 +121,8 @@ delete-increasing x (e ∷ s) (one-increasing a h) =
     above : Above (e .key) (words (delete x s))
     above = less-above (words (delete x s)) (λ z m. above-less a (delete-removes x s z .0 m .0))
 
--- the foremost of two sets, all of one before all of the other, is the first of their foremost that there is
+-- If all elements of one set come before all of another, the foremost of both sets together is the foremost of the first set, if it has one,
+-- else that of the second.
 foremost-of-both :
     {before : ℕ → ℕ → Type 0} {p : ℕ → Bool} {s t u : List ℕ} {a b : Perhaps ℕ}
     → Foremost before p s a → Foremost before p t b → ((x y : ℕ) → x ∈ s → y ∈ t → before x y)
@@ -141,8 +142,8 @@ foremost-of-one {before} p {x} itself =
     (λ e. it-is (List·Memᴰ·head refl) e (λ z m d. itself z (List·Memᴰ·eq-of-singleton m)))
     (λ e. none-is (λ z m d. false≢true (cc (List·Memᴰ·eq-of-singleton m))))
 
--- the first that passes a test is the least
-pub first-such-least : (p : ℕ → Bool) {s : List ℕ} → Increasing s → Least p s (first-such p s)
+-- the first word of an increasing list that passes a test is the least that passes it
+first-such-least : (p : ℕ → Bool) {s : List ℕ} → Increasing s → Least p s (first-such p s)
 unfolding first-such
 first-such-least p none-increasing = none-is (λ z m e. List·Memᴰ·not-nil m)
 first-such-least p (one-increasing {x} {xs} a h) =
@@ -150,8 +151,8 @@ first-such-least p (one-increasing {x} {xs} a h) =
     (λ y z m n. omega (arith, List·Memᴰ·eq-of-singleton m, above-less a n))
     (λ z. append-elements (x ∷ []) xs)
 
--- the last is the greatest
-pub last-such-greatest : (p : ℕ → Bool) {s : List ℕ} → Increasing s → Greatest p s (last-such p s)
+-- the last is the greatest that passes it
+last-such-greatest : (p : ℕ → Bool) {s : List ℕ} → Increasing s → Greatest p s (last-such p s)
 unfolding last-such
 last-such-greatest p none-increasing = none-is (λ z m e. List·Memᴰ·not-nil m)
 last-such-greatest p (one-increasing {x} {xs} a h) =
@@ -159,7 +160,7 @@ last-such-greatest p (one-increasing {x} {xs} a h) =
     (λ y z m n. omega (arith, List·Memᴰ·eq-of-singleton n, above-less a m))
     (λ z. Iff·trans (append-elements (x ∷ []) xs) (⊎-swap, ⊎-swap))
 
--- the first and the last entry whose word passes a test have the first and the last word that passes it
+-- a search among entries by their words finds the same words as a search among the words
 first-word : (p : ℕ → Bool) (s : List Entry) → its (λ e. e .key) (first-such (λ e. p (e .key)) s) ≡ first-such p (words s)
 unfolding first-such
 first-word p [] = refl
@@ -204,7 +205,7 @@ pub predecessor-greatest :
 unfolding predecessor
 predecessor-greatest x s h = rw (last-word (λ y. ltb y x) s) (last-such-greatest (λ y. ltb y x) h)
 
--- where no two words stand before each other, one answer at most is the foremost
+-- there is at most one foremost, if two words that come before each other are equal
 foremost-unique :
     {before : ℕ → ℕ → Type 0} {p : ℕ → Bool} {s : List ℕ} {a b : Perhaps ℕ}
     → ((y z : ℕ) → before y z → before z y → y ≡ z) → Foremost before p s a → Foremost before p s b → a ≡ b
@@ -213,20 +214,20 @@ foremost-unique same (it-is {y} m e h) (none-is k) = absurd (k y m e)
 foremost-unique same (none-is h) (it-is {y} m e k) = absurd (h y m e)
 foremost-unique same (none-is h) (none-is k) = refl
 
--- one answer at most is the least
+-- there is at most one least word
 pub least-unique : {p : ℕ → Bool} {s : List ℕ} {a b : Perhaps ℕ} → Least p s a → Least p s b → a ≡ b
 least-unique h k = foremost-unique (λ y z l r. le-antisymm l r) h k
 
--- one answer at most is the greatest
+-- there is at most one greatest word
 pub greatest-unique : {p : ℕ → Bool} {s : List ℕ} {a b : Perhaps ℕ} → Greatest p s a → Greatest p s b → a ≡ b
 greatest-unique h k = foremost-unique (λ y z l r. le-antisymm r l) h k
 
--- of two sets with equal heads, one among the other, the tails are so too
+-- if a set is contained in another with an equal head, its tail is contained in the other's tail
 tail-among : {x y : ℕ} {s t : List ℕ} → x ≡ y → Above x s → ((z : ℕ) → z ∈ x ∷ s → z ∈ y ∷ t) → (z : ℕ) → z ∈ s → z ∈ t
 tail-among q a h z m =
     ⊎-elim (λ e. absurd (omega (arith, above-less a m))) (λ n. n) (List·Memᴰ·cases-cons (h z (List·Memᴰ·tail m)))
 
--- two increasing lists with the same elements are equal: a set is fixed by its elements
+-- two increasing lists with the same elements are equal: a set is determined by its elements
 pub same-elements : {s t : List ℕ} → Increasing s → Increasing t → ((z : ℕ) → z ∈ s ↔ z ∈ t) → s ≡ t
 same-elements none-increasing none-increasing same = refl
 same-elements none-increasing (one-increasing {x = y} b k) same = absurd (List·Memᴰ·not-nil (same y .1 (List·Memᴰ·head refl)))
@@ -237,7 +238,7 @@ same-elements (one-increasing {x} {xs} a h) (one-increasing {x = y} {xs = ys} b 
     heads : x ≡ y
     heads = le-antisymm (head-least a (same y .1 (List·Memᴰ·head refl))) (head-least b (same x .0 (List·Memᴰ·head refl)))
 
--- the dictionary is a map: a word has the entry that was put in last, and no other word's entry changes
+-- The dictionary is a map: a word has the entry that was inserted last, and no other word's entry changes.
 pub lookup-inserted : (e : Entry) (s : List Entry) → lookup (e .key) (insert e s) ≡ such e
 unfolding insert lookup first-such
 lookup-inserted e [] = rw (eq-eqb (e .key) (e .key) refl)
@@ -270,7 +271,7 @@ lookup-kept k x (f ∷ s) apart =
     (λ same. lookup-kept k x s apart ∙ sym (rw (ne-eqb k (f .key) (λ also. apart (also ∙ sym (eqb-true x (f .key) same))))))
     (λ differs. ap (first-of (if eqb k (f .key) then such f else no-such)) (lookup-kept k x s apart))
 
--- whether a word is there depends on the words alone
+-- whether a word is found depends only on the words, not on the serials
 pub there-by-words : (k : ℕ) (s t : List Entry) → words s ≡ words t → isThere (lookup k s) ≡ isThere (lookup k t)
 unfolding lookup first-such
 there-by-words k [] [] same = refl

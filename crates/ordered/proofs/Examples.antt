@@ -1,5 +1,5 @@
--- The trees of document 01's sets A, B and C, and the calls over them, as they compute: a must-fail edit of a definition of a tree, a way
--- or a change meets one of these. (The starred examples themselves are about replies on tables, and stand in `pretree`.)
+-- Tests by computation: the trees of document 01's sets A, B and C, and the calls over them. They catch the must-fail edits of a tree, a way
+-- or a change. The general laws are in the other files. (The starred examples are about replies on tables; they are in crate `pretree`.)
 use Prim.Native.Nat.{ℕ, _+_}
 use mathlib.Core.Path.{_≡_, refl}
 use mathlib.Core.List.{List, [], _∷_}
@@ -10,14 +10,14 @@ use Rattle.ordered.specs.Dictionary.{Entry}
 use Rattle.ordered.specs.Tree.{Tree, none, row, treeOf, going}
 use Rattle.ordered.specs.Way.{Step, way, rows, joined, following, passing-equal, pushing, down, staying}
 use Rattle.ordered.specs.Reading.{Found, Reading, wordIn, rowsOf, has, next, prev, first, last, gap}
-use Rattle.ordered.specs.Grown.{grown, shrunk, pushed-tree, popped-tree, linked, shifted, lifted}
+use Rattle.ordered.specs.Grown.{tree-after-add, tree-after-del, pushed-tree, popped-tree, chained, shifted, lifted}
 use Rattle.ordered.specs.Change.{Take, Adding, Erasing, adding, erasing, pushed, left-over, raised}
 
--- each word with a serial of its own
+-- each word has a different serial
 abbrev entry : ℕ → Entry
 entry k = record { key = k; serial = k + 100 }
 
--- and with another, when it comes again
+-- the same word with a new serial
 abbrev again : ℕ → Entry
 again k = record { key = k; serial = k + 200 }
 
@@ -49,7 +49,7 @@ trees-agree : All-agree trees
 unfolding treeOf going side
 trees-agree = refl
 
--- a reading in short: its rows, and the word that it finds with the bits left at its row, or the distance
+-- a reading in short: how many rows it reads, and its answer
 abbrev short : {A : Type 0} → Reading A → ℕ × Perhaps A
 short r = (rowsOf (r .ways), r .answer)
 
@@ -81,11 +81,11 @@ readings-agree : All-agree readings
 unfolding rowsOf has next prev first last way rows following passing-equal down staying last-such side
 readings-agree = refl
 
--- the tree of A as the line program's example numbers its rows
+-- the tree of A, with the row numbers of the line program's example
 abbrev A-numbered : Tree
 A-numbered = word 0 4 none (word 1 8 (leaf 2 11) (leaf 3 15))
 
--- the rows that take an entry, each with it
+-- the rows that take an entry, each with its entry
 abbrev taken : List Take → List (ℕ × Entry)
 taken [] = []
 taken (t ∷ ts) = (t .at, t .entry) ∷ taken ts
@@ -94,7 +94,7 @@ abbrev hooked : Perhaps Step → Perhaps (ℕ × Side)
 hooked no-such = no-such
 hooked (such s) = such (s .at, s .turn)
 
--- an erase in short: its rows, the rows that take an entry, the hole and where it is linked
+-- an erase in short: how many rows it reads, the rows that take an entry, the hole, and where the hole is linked
 abbrev erasing-short : Erasing → ℕ × List (ℕ × Entry) × ℕ × Perhaps (ℕ × Side)
 erasing-short e = (rows (e .rows-read), taken (e .takes), e .hole, hooked (e .hook))
 
@@ -110,7 +110,7 @@ erases-agree : All-agree erases
 unfolding erasing raised way rows joined following down last-such side
 erases-agree = refl
 
--- an addition in short: its rows, the rows that take an entry, the entry of the new row and where it is linked
+-- an addition in short: how many rows it reads, the rows that take an entry, the entry of the new row, and where that row is linked
 abbrev adding-short : Adding → ℕ × List (ℕ × Entry) × Entry × Perhaps (ℕ × Side)
 adding-short a = (rows (a .rows-read), taken (a .takes), a .new-entry, hooked (a .hook))
 
@@ -128,18 +128,18 @@ adds-agree : All-agree adds
 unfolding adding pushed left-over way rows joined following pushing last-such side
 adds-agree = refl
 
--- the trees that are left, with their row numbers; the new row is row 4
+-- the trees after `add` and `del`, with row numbers; the new row is row 4
 abbrev left-trees : List (Example Tree)
 left-trees =
-    grown 4 4 (entry 12) A-numbered is word 0 4 none (word 1 8 (leaf 2 11) (word 3 12 none (leaf 4 15)))
-    ∷ grown 4 4 (entry 0) A-numbered is word 0 0 (leaf 4 4) (word 1 8 (leaf 2 11) (leaf 3 15))
-    ∷ grown 4 4 (entry 9) A-numbered is word 0 4 none (word 1 8 (word 2 9 none (leaf 4 11)) (leaf 3 15))
-    ∷ grown 4 4 (again 11) A-numbered is word 0 4 none (word 1 8 (row 2 (again 11) none none) (leaf 3 15))
-    ∷ shrunk 4 8 A-numbered is word 0 4 none (word 1 11 none (leaf 3 15))
-    ∷ shrunk 4 4 A-numbered is word 0 8 none (word 1 11 none (leaf 3 15))
-    ∷ shrunk 4 9 A-numbered is A-numbered
+    tree-after-add 4 4 (entry 12) A-numbered is word 0 4 none (word 1 8 (leaf 2 11) (word 3 12 none (leaf 4 15)))
+    ∷ tree-after-add 4 4 (entry 0) A-numbered is word 0 0 (leaf 4 4) (word 1 8 (leaf 2 11) (leaf 3 15))
+    ∷ tree-after-add 4 4 (entry 9) A-numbered is word 0 4 none (word 1 8 (word 2 9 none (leaf 4 11)) (leaf 3 15))
+    ∷ tree-after-add 4 4 (again 11) A-numbered is word 0 4 none (word 1 8 (row 2 (again 11) none none) (leaf 3 15))
+    ∷ tree-after-del 4 8 A-numbered is word 0 4 none (word 1 11 none (leaf 3 15))
+    ∷ tree-after-del 4 4 A-numbered is word 0 8 none (word 1 11 none (leaf 3 15))
+    ∷ tree-after-del 4 9 A-numbered is A-numbered
     ∷ []
 
 left-trees-agree : All-agree left-trees
-unfolding grown shrunk pushed-tree popped-tree linked shifted lifted left-over way following pushing down side
+unfolding tree-after-add tree-after-del pushed-tree popped-tree chained shifted lifted left-over way following pushing down side
 left-trees-agree = refl

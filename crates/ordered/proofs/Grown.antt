@@ -1,4 +1,4 @@
--- The trees that `add` and `del` leave of a proper tree are proper, and they list the dictionary's next set.
+-- After `add` or `del` a proper tree is still proper, and its entries are the dictionary's next set.
 use Prim.Native.Nat.{ℕ, zero, suc, _+_, _*_, _/_, _^_, _≤_, _<_}
 use mathlib.Core.Path.{_≡_, refl, sym, ap, _∙_}
 use mathlib.Core.Bool.{Bool, true, false}
@@ -14,27 +14,27 @@ use Rattle.ordered.specs.Proper.{Fitting, Proper}
 use Rattle.ordered.specs.Way.{Way, way, following}
 use Rattle.ordered.specs.Reading.{Found, wordIn, root-row}
 use Rattle.ordered.specs.Change.{entryAt}
-use Rattle.ordered.specs.Grown.{storing, linked, pushed-tree, popped-tree, grown, shrunk}
+use Rattle.ordered.specs.Grown.{storing, chained, pushed-tree, popped-tree, tree-after-add, tree-after-del}
 use Rattle.ordered.proofs.Bits.{to-part}
 use Rattle.ordered.proofs.Parts.{All, AllWords, none-all, one-all, all-map, above-all, insert-before, insert-between, delete-absent, delete-between}
 use Rattle.ordered.proofs.OneTree.{keys-fit, one-tree}
-use Rattle.ordered.proofs.Ways.{At-end, Onward, along, lower, upper, linked-entries, parted, turns-so, following-seeks}
+use Rattle.ordered.proofs.Ways.{At-end, Onward, along, lower, upper, chained-entries, parted, turns-so, following-seeks}
 use Rattle.ordered.proofs.Sought.{Ends, at-no-row, at-last-bit, at-key, Sought, way-of}
-use Rattle.ordered.proofs.Moves.{linking-proper, proper-from, proper-lower, push-proper, push-entries, pop-proper, pop-entries}
+use Rattle.ordered.proofs.PushPop.{linking-proper, proper-from, proper-lower, push-proper, push-entries, pop-proper, pop-entries}
 
--- the way of k in a proper tree into which k fits: where it ends k fits too, and what is proper there is proper in the whole, linked by
--- the rows of the way
+-- The way of k in a proper tree into which k fits. k also fits into the part at its end, and if that part is replaced by another proper
+-- part, the whole tree is proper.
 record Opened (k m path low : ℕ) (w : Way) : Type 0 where
   end-low : ℕ
   end-from : end-low ≤ k
   end-proper : Proper (w .bits) (k / 2 ^ w .bits) end-low (w .end)
-  links : (u : Tree) → Proper (w .bits) (k / 2 ^ w .bits) end-low u → Proper m path low (linked (w .passed) u)
+  links : (u : Tree) → Proper (w .bits) (k / 2 ^ w .bits) end-low u → Proper m path low (chained (w .passed) u)
 
 Opens : ℕ → ℕ → Tree → Way → Type 0
 Opens k m t w = (path low : ℕ) → Fitting m path low k → Proper m path low t → Opened k m path low w
 
 opened : (k m : ℕ) (t : Tree) → Opens k m t (way (following k) m t)
-unfolding Opens Proper linked
+unfolding Opens Proper chained
 opened k = along (following k) (Opens k) ends goes
   where
     ends : At-end (following k) (Opens k)
@@ -54,14 +54,14 @@ opened k = along (following k) (Opens k) ends goes
           end-proper = below .end-proper;
           links =
               λ u proper.
-              linking-proper m path low i e s l r (linked (w .passed) u) (h .key-fits) (h .parts (other s)) (below .links u proper);
+              linking-proper m path low i e s l r (chained (w .passed) u) (h .key-fits) (h .parts (other s)) (below .links u proper);
         }
 
--- k is the key of the row at which its way ends
+-- k is the root's key
 data Present (k : ℕ) : Tree → Type 0 where
   present : {i : ℕ} {e : Entry} {l r : Tree} → e .key ≡ k → Present k (row i e l r)
 
--- it is, or all that is listed there is greater
+-- where the way of k ends, k is the root's key, or all words are greater than k
 meeting : (bits k : ℕ) {u : Tree} → Ends (λ x. ltb x k) k u → (P : Bool → Type 0)
     → (Present k u → P true) → (AllWords (λ x. k < x) (entries u) → P false)
     → P (isThere (only-if (λ f. eqb k (wordIn f)) (root-row bits u)))
@@ -82,7 +82,7 @@ there k (present same) = refl
 own-key : (k : ℕ) {u : Tree} → Present k u → entryAt u .key ≡ k
 own-key k (present same) = same
 
--- there the row takes an entry of the same word
+-- replacing the root's entry by one with the same word is an `insert`
 stored-entries : (o : Entry) {u : Tree} → Present (o .key) u → entries (storing o u) ≡ insert o (entries u)
 unfolding insert entries
 stored-entries o (present {e} same) = rw (le-ltb (o .key) (e .key) (omega arith), eq-eqb (o .key) (e .key) (sym same))
@@ -109,12 +109,12 @@ module _ (m k path low : ℕ) (t : Tree) (fits : Fitting m path low k) (h : Prop
   unfolding Opens
   open-there = opened k m t path low fits h
 
-  -- the tree with another part at the end of the way
+  -- the entries of the tree, if those at the end of the way are replaced
   abbrev around : List Entry → List Entry
   around xs = lower (the-way .passed) ++ (xs ++ upper (the-way .passed))
 
-  lists-around : (u : Tree) {xs : List Entry} → entries u ≡ xs → entries (linked (the-way .passed) u) ≡ around xs
-  lists-around u same = linked-entries (the-way .passed) u ∙ ap around same
+  lists-around : (u : Tree) {xs : List Entry} → entries u ≡ xs → entries (chained (the-way .passed) u) ≡ around xs
+  lists-around u same = chained-entries (the-way .passed) u ∙ ap around same
 
   lists-itself : {xs : List Entry} → entries old-part ≡ xs → entries t ≡ around xs
   lists-itself same = parted (following k) m t ∙ ap around same
@@ -126,7 +126,7 @@ module _ (m k path low : ℕ) (t : Tree) (fits : Fitting m path low k) (h : Prop
       (all-map (λ x less. ne-eqb k (x .key) (λ same. omega (arith, ltb-true (x .key) k less))) (found .left-passes))
       (all-map (λ x less. ne-eqb k (x .key) (λ same. omega arith)) (found .right-above))
 
-  -- `del`: where k is at the end of its way, the first entry there is taken away
+  -- `del`: if the way of k ends at k, the first entry there is removed
   abbrev rest-part : Tree
   rest-part = popped-tree bits old-part
 
@@ -148,28 +148,28 @@ module _ (m k path low : ℕ) (t : Tree) (fits : Fitting m path low k) (h : Prop
       )
       (sym absent)
 
-  pub shrunk-proper : Proper m path low (shrunk m k t)
-  unfolding shrunk
+  pub shrunk-proper : Proper m path low (tree-after-del m k t)
+  unfolding tree-after-del
   shrunk-proper =
-      meeting bits k (found .ends) (λ b. Proper m path low (if b then linked (the-way .passed) rest-part else t))
+      meeting bits k (found .ends) (λ b. Proper m path low (if b then chained (the-way .passed) rest-part else t))
       (λ is-there.
       open-there .links rest-part
       (proper-lower bits (k / 2 ^ bits) (suc k) (open-there .end-low) rest-part (omega (arith, open-there .end-from))
       (rest-proper is-there)))
       (λ beyond. h)
 
-  pub shrunk-entries : entries (shrunk m k t) ≡ delete k (entries t)
-  unfolding shrunk
+  pub shrunk-entries : entries (tree-after-del m k t) ≡ delete k (entries t)
+  unfolding tree-after-del
   shrunk-entries =
-      meeting bits k (found .ends) (λ b. entries (if b then linked (the-way .passed) rest-part else t) ≡ delete k (entries t))
+      meeting bits k (found .ends) (λ b. entries (if b then chained (the-way .passed) rest-part else t) ≡ delete k (entries t))
       (λ is-there. lists-around rest-part (rest-entries is-there) ∙ sym deleted)
       (λ beyond.
       lists-itself (sym (delete-absent k (entries old-part) (all-map (λ x less. ne-eqb k (x .key) (λ same. omega arith)) beyond))) ∙ sym deleted)
 
-  pub shrunk-tree : unnumbered (shrunk m k t) ≡ treeOf m (delete k (entries t))
-  shrunk-tree = one-tree m path low (shrunk m k t) shrunk-proper ∙ ap (treeOf m) shrunk-entries
+  pub shrunk-tree : unnumbered (tree-after-del m k t) ≡ treeOf m (delete k (entries t))
+  shrunk-tree = one-tree m path low (tree-after-del m k t) shrunk-proper ∙ ap (treeOf m) shrunk-entries
 
--- `add`: where the word of e is not at the end of its way, e is pushed there before all other entries
+-- `add`: if the way of e's word does not end at that word, e is pushed in there, before all other entries
 module _ (m path low n : ℕ) (e : Entry) (t : Tree) (fits : Fitting m path low (e .key)) (h : Proper m path low t) where
   abbrev k : ℕ
   k = e .key
@@ -204,24 +204,24 @@ module _ (m path low n : ℕ) (e : Entry) (t : Tree) (fits : Fitting m path low 
   raised-part : AllWords (λ x. k < x) (entries old) → Proper left-bits (k / 2 ^ left-bits) (suc k) old
   raised-part beyond = proper-from left-bits (k / 2 ^ left-bits) (opens .end-low) (suc k) old (opens .end-proper) beyond
 
-  pub grown-proper : Proper m path low (grown n m e t)
-  unfolding grown
+  pub grown-proper : Proper m path low (tree-after-add n m e t)
+  unfolding tree-after-add
   grown-proper =
       meeting left-bits k (finds .ends)
       (λ b.
-      Proper m path low (if b then linked (the-way m k path low t fits h .passed) (storing e old) else linked (the-way m k path low t fits h .passed) new-part))
+      Proper m path low (if b then chained (the-way m k path low t fits h .passed) (storing e old) else chained (the-way m k path low t fits h .passed) new-part))
       (λ is-there. opens .links (storing e old) (stored-proper left-bits (k / 2 ^ left-bits) (opens .end-low) e is-there (opens .end-proper)))
       (λ beyond.
       opens .links new-part
       (proper-lower left-bits (k / 2 ^ left-bits) k (opens .end-low) new-part (opens .end-from)
       (push-proper n left-bits (k / 2 ^ left-bits) e old refl (raised-part beyond))))
 
-  pub grown-entries : entries (grown n m e t) ≡ insert e (entries t)
-  unfolding grown
+  pub grown-entries : entries (tree-after-add n m e t) ≡ insert e (entries t)
+  unfolding tree-after-add
   grown-entries =
       meeting left-bits k (finds .ends)
       (λ b.
-      entries (if b then linked (the-way m k path low t fits h .passed) (storing e old) else linked (the-way m k path low t fits h .passed) new-part)
+      entries (if b then chained (the-way m k path low t fits h .passed) (storing e old) else chained (the-way m k path low t fits h .passed) new-part)
       ≡ insert e (entries t))
       (λ is-there. lists-around m k path low t fits h (storing e old) (stored-entries e is-there) ∙ sym inserted)
       (λ beyond.
@@ -229,6 +229,6 @@ module _ (m path low n : ℕ) (e : Entry) (t : Tree) (fits : Fitting m path low 
       (push-entries n left-bits (k / 2 ^ left-bits) e old refl (raised-part beyond) ∙ sym (insert-before e (entries old) beyond))
       ∙ sym inserted)
 
-  -- so row numbers apart it is the PreTree of the dictionary's next set
-  pub grown-tree : unnumbered (grown n m e t) ≡ treeOf m (insert e (entries t))
-  grown-tree = one-tree m path low (grown n m e t) grown-proper ∙ ap (treeOf m) grown-entries
+  -- so, row numbers apart, it is the PreTree of the dictionary's next set
+  pub grown-tree : unnumbered (tree-after-add n m e t) ≡ treeOf m (insert e (entries t))
+  grown-tree = one-tree m path low (tree-after-add n m e t) grown-proper ∙ ap (treeOf m) grown-entries

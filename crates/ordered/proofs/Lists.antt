@@ -1,4 +1,4 @@
--- Laws of tests, of the elements of lists, and of increasing lists: for all that speaks of sets.
+-- Laws of tests, of the elements of lists, and of increasing lists.
 use Prim.Native.Nat.{ℕ, _≤_, _<_}
 use mathlib.Core.Path.{_≡_, refl}
 use mathlib.Core.Logic.{_↔_, _⊎_, ⊎-elim}
@@ -12,15 +12,15 @@ use lib.Dec.{ltb, eqb}
 use borrow.Author.Tests.{ltb-true, ltb-false, eqb-true, eqb-false}
 use Rattle.ordered.specs.Such.{if_then_else_}
 use Rattle.ordered.specs.Dictionary.{Above, none-above, one-above, Increasing, none-increasing, one-increasing}
-use Rattle.ordered.specs.Said.{_∈_}
+use Rattle.ordered.specs.Source004.{_∈_}
 
 module _ {A : Type 0} (P : A → Type 0) where
-  -- what holds of a where the test passes, and of b where it fails, holds of the one that it picks
+  -- to prove P of the one that a test picks, prove P of a if the test passes, and P of b if it fails
   pub by-test : (t : Bool) {a b : A} → (t ≡ true → P a) → (t ≡ false → P b) → P (if t then a else b)
   by-test true passed failed = passed refl
   by-test false passed failed = failed refl
 
-  -- likewise where x is compared with y
+  -- the same, for the three-way comparison of x with y
   pub by-order :
       (x y : ℕ) {a b c : A} → (x < y → P a) → (x ≡ y → P b) → (y < x → P c)
       → P (if ltb x y then a else if eqb x y then b else c)
@@ -37,12 +37,10 @@ cons-elements = (λ m. List·Memᴰ·cases-cons m, ⊎-elim (λ e. List·Memᴰ�
 pub append-elements : {A : Type 0} {y : A} (s t : List A) → y ∈ s ++ t ↔ ((y ∈ s) ⊎ (y ∈ t))
 append-elements s t = (List·Memᴰ·append-cases s, ⊎-elim (Memᴰ·append-left t) (Memᴰ·append-right s))
 
--- every element of a list above x is greater than x
 pub above-less : {x y : ℕ} {s : List ℕ} → Above x s → y ∈ s → x < y
 above-less (one-above h a) (List·Memᴰ·head e) = omega arith
 above-less (one-above h a) (List·Memᴰ·tail m) = above-less a m
 
--- and a list is above x if every element is greater than x
 pub less-above : {x : ℕ} (s : List ℕ) → ((y : ℕ) → y ∈ s → x < y) → Above x s
 less-above [] h = none-above
 less-above (y ∷ ys) h = one-above (h y (List·Memᴰ·head refl)) (less-above ys (λ z m. h z (List·Memᴰ·tail m)))
@@ -55,8 +53,8 @@ above-smaller {s} l a = less-above s (λ z m. lt-of-le-of-lt l (above-less a m))
 pub head-least : {x y : ℕ} {s : List ℕ} → Above x s → y ∈ x ∷ s → x ≤ y
 head-least a m = ⊎-elim (λ e. omega arith) (λ n. le-of-lt (above-less a n)) (List·Memᴰ·cases-cons m)
 
--- two increasing lists, every element of the first below every one of the second, are joined to an increasing list
-pub append-increasing :
+-- two increasing lists joined are increasing, if every element of the first is less than every element of the second
+append-increasing :
     {s t : List ℕ} → Increasing s → Increasing t → ((x y : ℕ) → x ∈ s → y ∈ t → x < y) → Increasing (s ++ t)
 append-increasing none-increasing k across = k
 append-increasing {t} (one-increasing {x} {xs} a h) k across =
@@ -65,7 +63,7 @@ append-increasing {t} (one-increasing {x} {xs} a h) k across =
     above : Above x (xs ++ t)
     above = less-above (xs ++ t) (λ y m. ⊎-elim (above-less a) (across x y (List·Memᴰ·head refl)) (List·Memᴰ·append-cases xs m))
 
--- and an increasing list that is two lists joined has such parts
+-- the converse
 pub increasing-parts : (s t : List ℕ) → Increasing (s ++ t) → Increasing s × Increasing t × ((x y : ℕ) → x ∈ s → y ∈ t → x < y)
 increasing-parts [] t h = (none-increasing, h, λ x y m n. absurd (List·Memᴰ·not-nil m))
 increasing-parts (x ∷ xs) t (one-increasing a h) =

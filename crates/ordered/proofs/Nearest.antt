@@ -1,4 +1,4 @@
--- The distance that `gap` answers is that to the nearest word of the set.
+-- The distance that `gap` answers is the distance to the nearest word of the set.
 use Prim.Native.Nat.{ℕ, _+_, _-_, _≤_, _<_, min}
 use mathlib.Core.Path.{_≡_, refl, sym, _∙_, subst}
 use mathlib.Core.Bool.{Bool, true, false, true≢false}
@@ -9,12 +9,12 @@ use lib.Dec.{ltb, leb}
 use borrow.Author.Tests.{lt-ltb, ltb-true, ltb-false, leb-true, leb-false}
 use Rattle.ordered.specs.Such.{if_then_else_, Perhaps, no-such, such, isThere}
 use Rattle.ordered.specs.Dictionary.{Entry, words, wordOf, Increasing, lookup, successor, predecessor}
-use Rattle.ordered.specs.Said.{_∈_, Foremost, it-is, none-is, Least, Greatest, apart, Nearest, nearest-is, no-nearest}
+use Rattle.ordered.specs.Source004.{_∈_, Foremost, it-is, none-is, Least, Greatest, apart, Nearest, nearest-is, no-nearest}
 use Rattle.ordered.specs.Reading.{nearest}
 use Rattle.ordered.proofs.Dictionary.{lookup-whether, successor-least, predecessor-greatest}
 
 module _ (k : ℕ) (s : List ℕ) where
-  -- a word of a set without k lies on one side of k
+  -- if k is not in the set, each word is less or greater than k
   by-side : (k ∈ s → ⊥) → {P : Type 0} (z : ℕ) → z ∈ s → (z < k → P) → (k < z → P) → P
   by-side absent {P} z in-s below above = go (ltb z k) (ltb k z) refl refl
     where

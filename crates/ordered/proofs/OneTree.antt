@@ -1,5 +1,5 @@
--- One tree for a set. In a proper tree the keys rise; it is, row numbers apart, the PreTree of the words that it lists; and the PreTree
--- of a set is proper and lists the set.
+-- A set has one tree. The listing of a proper tree increases. Row numbers apart, a proper tree is the PreTree of its entries. The PreTree of
+-- a set is proper, and its entries are the set.
 use Prim.Native.Nat.{ℕ, zero, suc, _+_, _*_, _/_, _^_, _≤_, _<_}
 use mathlib.Core.Path.{_≡_, refl, sym, ap, ap₂, _∙_, subst}
 use mathlib.Core.Logic.{_↔_}
@@ -15,12 +15,12 @@ use Rattle.ordered.specs.Proper.{Fitting, Proper}
 use Rattle.ordered.proofs.Bits.{to-part, from-part, side-of-part, left-below-right, by-sides, whole-path, on-root-path}
 use Rattle.ordered.proofs.Parts.{All, AllWords, none-all, one-all, all-map, all-append, all-both, all-above, above-all, append-increasing}
 
--- the words of W bits are those that fit into the whole tree
+-- a word has W bits if and only if it fits into the whole tree
 pub root-fits : (W k : ℕ) → k < 2 ^ W ↔ Fitting W 0 0 k
 root-fits W k =
     (λ small. record { not-below = omega arith; on-path = on-root-path W k .0 small }, λ fits. on-root-path W k .1 (fits .on-path))
 
--- induction over a proper tree: what holds of none, of a row with no bit left, and of a row with bits left where it holds of its parts
+-- induction over a proper tree: P holds if it holds of none, of a row with no bit left, and of a row with bits left if it holds of its parts
 pub by-rows : (P : (m path low : ℕ) → Tree → Type 0)
     → ((m path low : ℕ) → P m path low none)
     → ((path low i : ℕ) (e : Entry) → Fitting zero path low (e .key) → P zero path low (row i e none none))
@@ -39,7 +39,7 @@ by-rows P of-none of-last of-row (suc m) path low (row i e l r) h =
     (λ s. by-rows P of-none of-last of-row m (path * 2 + bitOf s) (suc (e .key)) (part s l r) (h .parts s))
 by-rows P of-none of-last of-row (suc m) path low damaged h = absurd h
 
--- what fits into a part of a row fits into the row's own
+-- what fits into a part of a row fits into the tree at the row
 widened : (m path low key : ℕ) (s : Side) → low ≤ key
     → {x : ℕ} → Fitting m (path * 2 + bitOf s) (suc key) x → Fitting (suc m) path low x
 widened m path low key s h {x} f =
@@ -59,7 +59,7 @@ module _ (m path low : ℕ) (l r : Tree) (parts : (s : Side) → Proper m (path 
   fits : (s : Side) → AllWords (Fitting m (path * 2 + bitOf s) low) (entries (part s l r))
   fits s = keys-fit m (path * 2 + bitOf s) low (part s l r) (parts s)
 
-  -- the words of the left part are below those of the right part
+  -- each word of the left part is less than each word of the right part
   parts-apart : AllWords (λ x. Above x (listing r)) (entries l)
   parts-apart =
       all-map (λ x f. all-above (all-map (λ y g. left-below-right m path (x .key) (y .key) (f .on-path) (g .on-path)) (fits right))) (fits left)
@@ -82,7 +82,7 @@ proper-intact =
     by-rows (λ m path low t. intact t ≡ true) (λ m path low. refl) (λ path low i e fits. refl)
     (λ m path low i e l r fits parts below. rw (below left, below right))
 
--- every tree has as many entries as rows
+-- a tree has one entry for each row
 pub entries-length : (t : Tree) → length (entries t) ≡ size t
 unfolding entries size
 entries-length none = refl
@@ -94,7 +94,6 @@ pub words-length : (s : List Entry) → length (words s) ≡ length s
 words-length [] = refl
 words-length (e ∷ s) = ap suc (words-length s)
 
--- and lists as many words
 pub listing-length : (t : Tree) → length (listing t) ≡ size t
 listing-length t = words-length (entries t) ∙ entries-length t
 
@@ -106,14 +105,14 @@ isSide-other : (s : Side) → isSide s (other s) ≡ false
 isSide-other left = refl
 isSide-other right = refl
 
--- a word goes to side s or to the other
+-- a word goes to side s or to the other side
 by-side : (P : Bool → Type 0) (s t : Side) → (t ≡ s → P true) → (t ≡ other s → P false) → P (isSide s t)
 by-side P left left here there = here refl
 by-side P left right here there = there refl
 by-side P right left here there = there refl
 by-side P right right here there = here refl
 
--- the entries that go to a side: all, none, those of two lists
+-- the entries that go to side s: if all do, if none does, and for two lists joined
 module _ (s : Side) (m : ℕ) where
   going-all : {xs : List Entry} → AllWords (λ x. side m x ≡ s) xs → going s m xs ≡ xs
   unfolding going
@@ -134,7 +133,7 @@ module _ (s : Side) (m : ℕ) where
       either true gs hs = refl
       either false gs hs = refl
 
-  -- they have what every entry of the list has, and they go to that side
+  -- what holds of every entry of the list holds of these, and they go to side s
   going-has : {P : Entry → Type 0} {xs : List Entry} → All P xs → All (λ x. P x × (side m (x .key) ≡ s)) (going s m xs)
   unfolding going
   going-has none-all = none-all
@@ -151,7 +150,7 @@ module _ (s : Side) (m : ℕ) where
       (λ here. one-increasing (all-above (all-map (λ y g. g .0) (going-has (above-all xs a)))) (going-increasing xs h))
       (λ there. going-increasing xs h)
 
--- of the entries below a row, those of a part are those that go to its side
+-- of the entries below a row, the ones in a part are the ones that go to its side
 module _ (m path low : ℕ) (l r : Tree) (parts : (s : Side) → Proper m (path * 2 + bitOf s) low (part s l r)) where
   going-to : (s : Side) → AllWords (λ x. side m x ≡ s) (entries (part s l r))
   going-to s = all-map (λ x f. side-of-part m (x .key) path s (f .on-path)) (fits m path low l r parts s)
@@ -177,7 +176,7 @@ one-tree =
     empty zero path low = refl
     empty (suc m) path low = refl
 
--- so two proper trees with the same bits left and the same entries are equal, row numbers apart
+-- so two proper trees with the same number of bits left and the same entries are equal, row numbers apart
 pub same-tree : (m path low path′ low′ : ℕ) (t u : Tree) → Proper m path low t → Proper m path′ low′ u
     → entries t ≡ entries u → unnumbered t ≡ unnumbered u
 same-tree m path low path′ low′ t u h k same = one-tree m path low t h ∙ ap (treeOf m) same ∙ sym (one-tree m path′ low′ u k)
@@ -209,7 +208,7 @@ set-proper (suc m) path low (x ∷ xs) (one-increasing a rising) (one-all f fs) 
           (going-fits m path low s xs a fs));
     }
 
--- a greater word on the path of a row does not go further left
+-- if a word goes right at a row, so does every greater word on the row's path
 right-stays : (m x y : ℕ) → x / 2 ^ suc m ≡ y / 2 ^ suc m → x < y → side m x ≡ right → side m y ≡ right
 right-stays m x y same less goes-right = by-cases (side m y) refl
   where
@@ -217,7 +216,7 @@ right-stays m x y same less goes-right = by-cases (side m y) refl
     by-cases left goes-left = absurd (let back : y < x = by-sides m y x (sym same) goes-left goes-right in omega arith)
     by-cases right also = refl
 
--- so the entries below a row are those that go left and then those that go right
+-- so the entries below a row are those that go left, followed by those that go right
 going-both : (m path low : ℕ) (xs : List Entry) → Increasing (words xs) → AllWords (Fitting (suc m) path low) xs
     → going left m xs ++ going right m xs ≡ xs
 unfolding going
@@ -236,7 +235,7 @@ going-both m path low (x ∷ xs) (one-increasing a rising) (one-all f fs) =
     by-cases left goes-left rest = ap (λ ys. x ∷ ys) rest
     by-cases right goes-right rest = rw (going-none left m (all-right goes-right), going-all right m (all-right goes-right))
 
--- and its entries are the set
+-- the entries of the PreTree of a set are the set
 pub set-entries : (m path low : ℕ) (S : List Entry) → Increasing (words S) → AllWords (Fitting m path low) S → entries (treeOf m S) ≡ S
 unfolding treeOf entries
 set-entries zero path low [] rising fits = refl

@@ -1,4 +1,4 @@
--- Laws of lists: what holds of every element, what is sought in a list, and both where the list is joined from parts.
+-- Laws of lists: what holds of every element, searches in a list, and both for a list joined from parts.
 use Prim.Native.Nat.{ℕ, _<_}
 use mathlib.Core.Path.{_≡_, refl, sym, ap}
 use mathlib.Core.Bool.{Bool, true, false}
@@ -27,16 +27,15 @@ module _ {A : Type 0} where
   all-both none-all none-all = none-all
   all-both (one-all h hs) (one-all k ks) = one-all (h, k) (all-both hs ks)
 
-  -- said of the elements one by one, and the other way round
+  -- from all elements to each one, and back
   pub each-of-all : {P : A → Type 0} {xs : List A} {x : A} → All P xs → List·Memᴰ x xs → P x
   each-of-all {P} (one-all h hs) (List·Memᴰ·head e) = rw e h
   each-of-all (one-all h hs) (List·Memᴰ·tail i) = each-of-all hs i
 
-  pub all-of-each : {P : A → Type 0} (xs : List A) → ((x : A) → List·Memᴰ x xs → P x) → All P xs
+  all-of-each : {P : A → Type 0} (xs : List A) → ((x : A) → List·Memᴰ x xs → P x) → All P xs
   all-of-each [] f = none-all
   all-of-each (x ∷ xs) f = one-all (f x (List·Memᴰ·head refl)) (all-of-each xs (λ y i. f y (List·Memᴰ·tail i)))
 
--- P holds of the word of every entry
 abbrev pub AllWords : (ℕ → Type 0) → List Entry → Type 0
 AllWords P es = All (λ e. P (e .key)) es
 
@@ -52,7 +51,7 @@ pub words-append : (es fs : List Entry) → words (es ++ fs) ≡ words es ++ wor
 words-append [] fs = refl
 words-append (e ∷ es) fs = ap (λ xs. e .key ∷ xs) (words-append es fs)
 
--- the words of two sets, one wholly below the other
+-- two sets joined are a set, if all words of the first are less than all words of the second
 pub append-increasing : (es fs : List Entry) → Increasing (words es) → Increasing (words fs)
     → AllWords (λ x. Above x (words fs)) es → Increasing (words (es ++ fs))
 append-increasing [] fs h k apart = k
@@ -84,8 +83,8 @@ module _ {A : Type 0} where
     last-such-append [] ys = sym (first-of-no-such (last-such p ys))
     last-such-append (x ∷ xs) ys = rw (last-such-append xs ys) (first-of-assoc (last-such p ys) (last-such p xs) (only-if p (such x)))
 
-  -- two tests that agree on a list find the same in it
-  pub same-first : {p q : A → Bool} (xs : List A) → All (λ x. p x ≡ q x) xs → first-such p xs ≡ first-such q xs
+  -- two tests that agree on a list find the same element
+  same-first : {p q : A → Bool} (xs : List A) → All (λ x. p x ≡ q x) xs → first-such p xs ≡ first-such q xs
   unfolding first-such
   same-first [] none-all = refl
   same-first (x ∷ xs) (one-all h hs) = rw (h, same-first xs hs)
@@ -95,7 +94,7 @@ module _ {A : Type 0} where
   same-last [] none-all = refl
   same-last (x ∷ xs) (one-all h hs) = rw (h, same-last xs hs)
 
-  pub no-first : {p : A → Bool} (xs : List A) → All (λ x. p x ≡ false) xs → first-such p xs ≡ no-such
+  no-first : {p : A → Bool} (xs : List A) → All (λ x. p x ≡ false) xs → first-such p xs ≡ no-such
   unfolding first-such
   no-first [] none-all = refl
   no-first (x ∷ xs) (one-all h hs) = rw (h, no-first xs hs)
@@ -105,7 +104,7 @@ module _ {A : Type 0} where
   no-last [] none-all = refl
   no-last (x ∷ xs) (one-all h hs) = rw (h, no-last xs hs)
 
-  -- what is sought among three parts, of which the outer ones wholly pass or fail the test
+  -- a search in three parts joined, where the test is the same for all of an outer part
   module _ (p : A → Bool) (xs ys zs : List A) where
     pub first-between : All (λ x. p x ≡ false) xs → All (λ z. p z ≡ true) zs
         → first-such p (xs ++ (ys ++ zs)) ≡ first-of (first-such p ys) (first-such anything zs)
@@ -119,7 +118,7 @@ module _ {A : Type 0} where
   If-such P no-such = Unit {0}
   If-such P (such x) = P x
 
-  -- what is found, if there is such a thing, is one of the list and passes the test
+  -- what is found is an element of the list and passes the test
   pub last-such-all : {P : A → Type 0} (p : A → Bool) {xs : List A} → All P xs → If-such (λ x. P x × (p x ≡ true)) (last-such p xs)
   unfolding last-such
   last-such-all p none-all = tt
@@ -152,7 +151,7 @@ lookup-between x xs ys zs fail fail′ =
     rw (first-such-append (λ e. eqb x (e .key)) xs (ys ++ zs), no-first xs fail, first-such-append (λ e. eqb x (e .key)) ys zs, no-first zs fail′)
     (first-of-no-such (first-such (λ e. eqb x (e .key)) ys))
 
--- insert and delete among three parts, of which the outer ones are below and above the word
+-- `insert` and `delete` in three parts joined: the first is below the word, the last is above it
 module _ (e : Entry) where
   pub insert-before : (zs : List Entry) → AllWords (λ z. e .key < z) zs → insert e zs ≡ e ∷ zs
   unfolding insert

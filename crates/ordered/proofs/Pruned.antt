@@ -1,5 +1,5 @@
--- A call meets damage over a pruned tree exactly where it reads a bad row over the whole tree. (`Pruned Bad σ t t′`: t′ is the tree t with
--- damage in place of each bad row, where row i has the number σ i.)
+-- A call over a pruned tree meets damage if and only if the same call over the whole tree reads a bad row. (`Pruned Bad σ t t′`: t′ is the
+-- tree t with damage in place of each bad row. Row i of t has the number σ i in t′.)
 use Prim.Native.Nat.{ℕ, zero, suc}
 use mathlib.Core.Path.{_≡_, refl, sym, ap}
 use mathlib.Core.Logic.{inl, inr}
@@ -9,11 +9,11 @@ use mathlib.Core.List.{Memᴰ·append-left, Memᴰ·append-right, List·Memᴰ·
 use lib.Dec.{ltb, eqb}
 use Rattle.ordered.specs.Such.{if_then_else_, Perhaps, no-such, such, first-of, only-if, last-such}
 use Rattle.ordered.specs.Word.{Side, left, right, isSide}
-use Rattle.ordered.specs.Said.{_∈_, Whether}
+use Rattle.ordered.specs.Source004.{_∈_, Whether}
 use Rattle.ordered.specs.Dictionary.{Entry}
 use Rattle.ordered.specs.Tree.{Tree, none, row, damaged, exists}
 use Rattle.ordered.specs.Way.{Step, Way, Rule, Turn, stop, to, way, endNumber, readOn, isDamaged, broken, passing, turning, joined, following, passing-equal, pushing, down, staying}
-use Rattle.ordered.specs.Reading.{Found, passed-row, Reading, readOf, brokenIn, root-row, end-row, end-if, wordIn, to-its-end, has, right-left-aside, right-child, next-by, next, left-left-aside, prev-by, prev, first, last, gap-by, gap}
+use Rattle.ordered.specs.Reading.{Found, passed-row, Reading, readOf, brokenIn, root-row, end-row, end-if, wordIn, to-its-end, has, skipped-right, right-child, next-by, next, skipped-left, prev-by, prev, first, last, gap-by, gap}
 use Rattle.ordered.specs.Change.{Adding, Erasing, ends-at, numberAt, adding-by, adding, erasing-by, erasing}
 use Rattle.ordered.proofs.Ways.{step, Blind, following-blind, passing-equal-blind, pushing-blind, staying-blind, down-blind}
 
@@ -21,7 +21,7 @@ use Rattle.ordered.proofs.Ways.{step, Blind, following-blind, passing-e
 abbrev pub Some : (ℕ → Type 0) → List ℕ → Type 0
 Some Bad is = (i : ℕ) × (i ∈ is) × Bad i
 
--- the ways vs break exactly where the ways ws read a bad row
+-- the ways vs meet damage if and only if the ways ws read a bad row
 abbrev pub BreaksExactly : (ℕ → Type 0) → List Way → List Way → Type 0
 BreaksExactly Bad ws vs = Whether (Some Bad (readOf ws)) (brokenIn vs)
 
@@ -47,21 +47,21 @@ module _ (Bad : ℕ → Type 0) (σ : ℕ → ℕ) where
     neither : FindAlike no-such no-such
     both : {s s′ : Step} → Beside s s′ → FindAlike (such s) (such s′)
 
-  -- a way over the whole tree and one over the pruned tree: the first reads a bad row and the second breaks, or both pass the same rows and
-  -- end alike
+  -- a way over the whole tree and one over the pruned tree: the first reads a bad row and the second meets damage, or both pass the same
+  -- rows and end alike
   data GoesAlike : Way → Way → Type 0 where
     breaks : {w : Way} {ss : List Step} {m : ℕ} → Some Bad (readOn w) → GoesAlike w (way-to ss m damaged)
     ends :
         {ss ss′ : List Step} {m : ℕ} {t t′ : Tree} → Steps ss ss′ → Pruned t t′ → isDamaged t′ ≡ false
         → GoesAlike (way-to ss m t) (way-to ss′ m t′)
 
-  -- like that for all the ways of a call. Behind a way that breaks, the calls may part.
+  -- `GoesAlike` for all ways of a call. After a way that meets damage the remaining ways may differ.
   data AllGoAlike : List Way → List Way → Type 0 where
     no-ways : AllGoAlike [] []
     one-way : {w v : Way} {ws vs : List Way} → GoesAlike w v → AllGoAlike ws vs → AllGoAlike (w ∷ ws) (v ∷ vs)
     cut-off : {w : Way} {ss : List Step} {m : ℕ} {ws vs : List Way} → Some Bad (readOn w) → AllGoAlike (w ∷ ws) (way-to ss m damaged ∷ vs)
 
--- the law for one way, for `add` and for `del`: also, if the second does not break, they end alike
+-- The law for one way, for `add` and for `del`. If the second way meets no damage, both also end alike.
 pub record CutWay (Bad : ℕ → Type 0) (σ : ℕ → ℕ) (w v : Way) : Type 0 where
   pub exactly : BreaksExactly Bad (w ∷ []) (v ∷ [])
   pub same-row : broken v ≡ false → end-row w ≡ end-row v
@@ -93,9 +93,8 @@ unfolding way
 at-damage f zero = refl
 at-damage f (suc m) = refl
 
--- each call, given its first way
 abbrev next-from : ℕ → Way → Reading Found
-next-from k w = next-by w (end-if (ltb k) w) (last-such right-left-aside (w .passed))
+next-from k w = next-by w (end-if (ltb k) w) (last-such skipped-right (w .passed))
 
 abbrev lower-key : ℕ → Step → Bool
 lower-key k s = ltb (s .entry .key) k
@@ -116,12 +115,12 @@ adding-from e w = adding-by e w (way pushing (w .bits) (w .end)) (onward pushing
 abbrev erasing-from : Way → Bool → Erasing
 erasing-from w = erasing-by w (way (down left) (w .bits) (w .end)) (onward (down left) w)
 
--- the ways ws begin with w
+-- w is the first of the ways ws
 abbrev Led : Way → List Way → Type 0
 Led w ws = (rest : List Way) × (ws ≡ w ∷ rest)
 
 next-led : (k : ℕ) (w : Way) → Led w (next-from k w .ways)
-next-led k w = led (end-if (ltb k) w) (last-such right-left-aside (w .passed))
+next-led k w = led (end-if (ltb k) w) (last-such skipped-right (w .passed))
   where
     led : (q : Perhaps Found) (p : Perhaps Step) → Led w (next-by w q p .ways)
     led (such x) p = ([], refl)
@@ -133,7 +132,7 @@ prev-led k w = led (end-if (λ x. ltb x k) w) (last-such (lower-key k) (w .passe
     led : (q : Perhaps Found) (p : Perhaps Step) → Led w (prev-by w q p .ways)
     led (such x) p = ([], refl)
     led no-such no-such = ([], refl)
-    led no-such (such p) = either (left-left-aside p)
+    led no-such (such p) = either (skipped-left p)
       where
         d : Way
         d = way (down right) (p .below) (p .left-part)
@@ -150,7 +149,7 @@ gap-led k w after = led (end-if (eqb k) w)
     led no-such = let (rest, e) = prev-led k w in (rest ++ after .ways, rw e)
 
 module _ {Bad : ℕ → Type 0} where
-  -- a way that goes on has still read its rows
+  -- a bad row on a way is also on the way continued
   bad-onward : (g : Rule) (w : Way) → Some Bad (readOn w) → Some Bad (readOn (onward g w))
   unfolding readOn joined
   bad-onward g w (i, there, bad) = (i, still (w .passed) there, bad)
@@ -167,7 +166,7 @@ module _ {Bad : ℕ → Type 0} where
   none-cons good rest (j, List·Memᴰ·head same, bad) = good (rw same at bad)
   none-cons good rest (j, List·Memᴰ·tail there, bad) = rest (j, there, bad)
 
-  -- a list in which no number is bad may be left out
+  -- a list without bad numbers can be left out
   skip-good : (is js : List ℕ) {b : Bool} → ¬ Some Bad is → Whether (Some Bad js) b → Whether (Some Bad (is ++ js)) b
   skip-good is js {b} good w = (λ e. behind (w .0 e), further)
     where
@@ -189,7 +188,7 @@ module _ {Bad : ℕ → Type 0} {σ : ℕ → ℕ} where
   passing-alike b (breaks (i, there, bad)) = breaks (i, List·Memᴰ·tail there, bad)
   passing-alike b (ends ss end whole) = ends (steps b ss) end whole
 
-  -- a pruned tree that is not damage itself has the same row at its root
+  -- if the pruned tree is not damage, the root of the whole tree is not bad
   end-good : {t t′ : Tree} → Pruned Bad σ t t′ → isDamaged t′ ≡ false → ¬ Some Bad (endNumber t)
   end-good empty whole = none-empty
   end-good (kept good lefts rights) whole = none-cons good none-empty
@@ -205,7 +204,7 @@ module _ {Bad : ℕ → Type 0} {σ : ℕ → ℕ} where
   number-same zero-same (kept good lefts rights) whole = refl
   number-same zero-same (cut bad) whole = absurd (false≢true (sym whole))
 
-  -- the law for one way, by every rule
+  -- the law for one way, for every rule
   goes-alike : (f : Rule) → Blind f → (m : ℕ) {t t′ : Tree} → Pruned Bad σ t t′ → GoesAlike Bad σ (way f m t) (way f m t′)
   unfolding way
   goes-alike f blind zero empty = ends no-steps empty refl
@@ -258,7 +257,7 @@ module _ {Bad : ℕ → Type 0} {σ : ℕ → ℕ} where
       → AllGoAlike Bad σ ws vs
   cut-first bad (rest, e) (rest′, e′) = rw (e, e′) (cut-off bad)
 
-  -- the last row passed with a property
+  -- both ways find the same last row that passes a test
   found : (p : Step → Bool) → ((s s′ : Step) → Beside Bad σ s s′ → p s′ ≡ p s) → {ss ss′ : List Step} → Steps Bad σ ss ss′
       → FindAlike Bad σ (last-such p ss) (last-such p ss′)
   unfolding last-such
@@ -327,10 +326,10 @@ module _ {Bad : ℕ → Type 0} {σ : ℕ → ℕ} where
       unfolding next
       next-alike = by-way (goes-alike (passing-equal k) (passing-equal-blind k) m pruned)
         where
-          sought : {ss ss′ : List Step} → Steps Bad σ ss ss′ → FindAlike Bad σ (last-such right-left-aside ss) (last-such right-left-aside ss′)
-          sought = found right-left-aside same
+          sought : {ss ss′ : List Step} → Steps Bad σ ss ss′ → FindAlike Bad σ (last-such skipped-right ss) (last-such skipped-right ss′)
+          sought = found skipped-right same
             where
-              same : (s s′ : Step) → Beside Bad σ s s′ → right-left-aside s′ ≡ right-left-aside s
+              same : (s s′ : Step) → Beside Bad σ s s′ → skipped-right s′ ≡ skipped-right s
               same s s′ (beside good lefts rights) = rw (exists-same rights)
 
           by-way : {w v : Way} → GoesAlike Bad σ w v → AllGoAlike Bad σ (next-from k w .ways) (next-from k v .ways)
@@ -382,7 +381,7 @@ module _ {Bad : ℕ → Type 0} {σ : ℕ → ℕ} where
       pub gap-tested : BreaksExactly Bad (gap m k t .ways) (gap m k t′ .ways)
       gap-tested = ways-tested gap-alike
 
-      -- `numberAt` an empty tree is 0
+      -- needed because `numberAt` of an empty tree is 0
       module _ (zero-same : σ 0 ≡ 0) where
         cut-way : {w v : Way} → GoesAlike Bad σ w v → CutWay Bad σ w v
         unfolding broken

@@ -1,4 +1,4 @@
--- The bounds on the rows that a call reads, on every tree, damaged ones too: each is one law of every way, used once or twice.
+-- The bounds on the rows that a call reads, on every tree, also on a damaged one. They follow from one law of every way, used once or twice.
 use Prim.Native.Nat.{ℕ, zero, suc, _+_, _*_, _≤_}
 use mathlib.Core.Path.{_≡_, refl, sym}
 use mathlib.Core.Bool.{Bool, true, false}
@@ -12,13 +12,13 @@ use Rattle.ordered.specs.Word.{Side, left, right}
 use Rattle.ordered.specs.Dictionary.{Entry}
 use Rattle.ordered.specs.Tree.{Tree, none, row, damaged, part}
 use Rattle.ordered.specs.Way.{Step, Way, Rule, way, rows, endRows, joined, following, passing-equal, pushing, down, staying}
-use Rattle.ordered.specs.Reading.{Found, passed-row, rowsOf, end-if, to-its-end, has, right-left-aside, next-by, next, left-left-aside, prev-by, prev, first, last, gap-by, gap}
+use Rattle.ordered.specs.Reading.{Found, passed-row, rowsOf, end-if, to-its-end, has, skipped-right, next-by, next, skipped-left, prev-by, prev, first, last, gap-by, gap}
 use Rattle.ordered.specs.Change.{adding-by, adding, erasing-by, erasing, ends-at}
 use Rattle.ordered.proofs.Parts.{same-last}
 use Rattle.ordered.proofs.Ways.{step, along, passed-pass, following-seeks}
 
--- the rows that a way passes and the bits left where it ends make up the bits left at its root
-pub passed-bits : (f : Rule) (m : ℕ) (t : Tree) → length (way f m t .passed) + way f m t .bits ≡ m
+-- each row that a way passes uses up one bit
+passed-bits : (f : Rule) (m : ℕ) (t : Tree) → length (way f m t .passed) + way f m t .bits ≡ m
 passed-bits f =
     along f (λ m t w. length (w .passed) + w .bits ≡ m) (λ m t ends. zero-add m)
     (λ m i e l r s says rest. omega (arith, rest))
@@ -28,13 +28,13 @@ one-end none = omega arith
 one-end (row i e l r) = omega arith
 one-end damaged = omega arith
 
--- a way reads at most as many rows as there are bits left, and one
+-- a way with m bits left reads at most m + 1 rows
 pub way-rows : (f : Rule) (m : ℕ) (t : Tree) → rows (way f m t) ≤ m + 1
 unfolding rows
 way-rows f m t = omega (arith, passed-bits f m t, one-end (way f m t .end))
 
--- so does a way that goes on from its end by another rule
-pub joined-rows : (f g : Rule) (m : ℕ) (t : Tree) → let w : Way = way f m t in rows (joined w (way g (w .bits) (w .end))) ≤ m + 1
+-- so does a way that is continued from its end by another rule
+joined-rows : (f g : Rule) (m : ℕ) (t : Tree) → let w : Way = way f m t in rows (joined w (way g (w .bits) (w .end))) ≤ m + 1
 unfolding rows joined
 joined-rows f g m t =
     let w : Way = way f m t in
@@ -71,10 +71,10 @@ unfolding next
 next-rows m k t =
     let w : Way = way (passing-equal k) m t in
     let further : rowsOf (next m k t .ways) ≤ rows w + 1 =
-    next-by-rows w (end-if (ltb k) w) (last-such right-left-aside (w .passed)) in
+    next-by-rows w (end-if (ltb k) w) (last-such skipped-right (w .passed)) in
     omega (arith, way-rows (passing-equal k) m t)
 
--- below the last row that a way passes there are as many bits left as where it ends
+-- the bits left below the last row that a way passes are the bits left where it ends
 abbrev Last-below : ℕ → ℕ → Perhaps Step → Type 0
 Last-below m bits no-such = bits ≡ m
 Last-below m bits (such p) = p .below ≡ bits
@@ -95,7 +95,7 @@ prev-by-rows : (m : ℕ) (w : Way) (q : Perhaps Found) (p : Perhaps Step) → le
 unfolding rowsOf rows
 prev-by-rows m w (such x) p sum below = omega (arith, one-end (w .end))
 prev-by-rows m w no-such no-such sum below = omega (arith, one-end (w .end))
-prev-by-rows m w no-such (such p) sum below = either (left-left-aside p)
+prev-by-rows m w no-such (such p) sum below = either (skipped-left p)
   where
     d : Way
     d = way (down right) (p .below) (p .left-part)

@@ -1,4 +1,5 @@
--- The way of a word in a proper tree whose path it is on: what lies left of the way is below the word, what lies right is above it.
+-- The way of a word in a proper tree, if the word is on the tree's path: all words to the left of the way are less than the word, all words to
+-- the right are greater.
 use Prim.Native.Nat.{ℕ, zero, suc, _+_, _*_, _/_, _^_, _<_}
 use mathlib.Core.Path.{_≡_}
 use mathlib.Core.Bool.{Bool, true, false}
@@ -16,8 +17,8 @@ use Rattle.ordered.proofs.Parts.{All, AllWords, none-all, one-all, all-
 use Rattle.ordered.proofs.OneTree.{keys-fit, parts-above}
 use Rattle.ordered.proofs.Ways.{Stops, at-bottom, at-none, at-damage, at-stop, Onward, along, left-aside, right-aside, lower, upper, Seeks, turns-so, stops-so, following-seeks, passing-equal-seeks}
 
--- where a way that follows the bits of k past the keys that pass a test ends in a proper tree: at an empty link; at k, with no bit left;
--- or at a row whose key does not pass
+-- Where a way ends in a proper tree, if it follows the bits of k past the keys that pass a test: at an empty link; at k, with no bit left; or
+-- at a row whose key does not pass.
 pub data Ends (test : ℕ → Bool) (k : ℕ) : Tree → Type 0 where
   at-no-row : Ends test k none
   at-last-bit : {i : ℕ} {e : Entry} → e .key ≡ k → Ends test k (row i e none none)
@@ -28,8 +29,8 @@ pub record Sought (test : ℕ → Bool) (k : ℕ) (w : Way) : Type 0 where
   pub right-above : AllWords (λ x. k < x) (upper (w .passed))
   pub ends : Ends test k (w .end)
 
--- one law for the ways of a word: where the test lets every word below k pass, what lies left of the way passes it, and what lies right of
--- the way is above k
+-- One law for both ways of a word: if every word less than k passes the test, all words to the left of the way pass it, and all words to the
+-- right are greater than k.
 module _ (f : Rule) (test : ℕ → Bool) (k : ℕ) (seeks : Seeks f test k) (below : (x : ℕ) → x < k → test x ≡ true) where
   ends-so : (m : ℕ) (t : Tree) → Stops f m t → (path low : ℕ) → k / 2 ^ m ≡ path → Proper m path low t → Ends test k t
   unfolding Proper
@@ -54,7 +55,7 @@ module _ (f : Rule) (test : ℕ → Bool) (k : ℕ) (seeks : Seeks f test k) (be
       all-map (λ x f. left-below-right m path k (x .key) on (f .on-path)) (keys-fit m (path * 2 + bitOf right) low r h)
   rights-above m path low right r on h = none-all
 
-  pub sought : (m : ℕ) (t : Tree) (path low : ℕ) → k / 2 ^ m ≡ path → Proper m path low t → Sought test k (way f m t)
+  sought : (m : ℕ) (t : Tree) (path low : ℕ) → k / 2 ^ m ≡ path → Proper m path low t → Sought test k (way f m t)
   unfolding Proper lower upper
   sought =
       along f (λ m t w. (path low : ℕ) → k / 2 ^ m ≡ path → Proper m path low t → Sought test k w)
@@ -72,7 +73,7 @@ module _ (f : Rule) (test : ℕ → Bool) (k : ℕ) (seeks : Seeks f test k) (be
             ends = onward .ends;
           }
 
--- the way of k, and the way that passes k through, on a proper tree whose path k is on
+-- the law for the way of k, and for the way on which "rows equal to k are passed through"
 module _ (m k path low : ℕ) (t : Tree) (on : k / 2 ^ m ≡ path) (h : Proper m path low t) where
   pub way-of : Sought (λ x. ltb x k) k (way (following k) m t)
   way-of = sought (following k) (λ x. ltb x k) k (following-seeks k) (λ x less. lt-ltb x k less) m t path low on h

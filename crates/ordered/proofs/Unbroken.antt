@@ -9,12 +9,12 @@ use Rattle.ordered.specs.Word.{Side, left, right}
 use Rattle.ordered.specs.Dictionary.{Entry}
 use Rattle.ordered.specs.Tree.{Tree, part, intact}
 use Rattle.ordered.specs.Way.{Step, Way, Rule, way, broken, joined, following, passing-equal, pushing, down, staying}
-use Rattle.ordered.specs.Reading.{Found, passed-row, brokenIn, end-if, to-its-end, has, right-left-aside, next-by, next, left-left-aside, prev-by, prev, first, last, gap-by, gap}
+use Rattle.ordered.specs.Reading.{Found, passed-row, brokenIn, end-if, to-its-end, has, skipped-right, next-by, next, skipped-left, prev-by, prev, first, last, gap-by, gap}
 use Rattle.ordered.specs.Change.{ends-at, adding-by, adding, erasing-by, erasing}
 use Rattle.ordered.proofs.Parts.{All, none-all, one-all, all-append, If-such, last-such-one}
 use Rattle.ordered.proofs.Ways.{along, intact-part, unbroken}
 
--- what a way passes, and what it ends at, is without damage too
+-- the parts beside the rows that a way passes are without damage too
 Intact-step : Step → Type 0
 Intact-step s = (σ : Side) → intact (part σ (s .left-part) (s .right-part)) ≡ true
 
@@ -54,7 +54,7 @@ prev-by-unbroken : (w : Way) (q : Perhaps Found) (p : Perhaps Step) → broken w
 unfolding Intact-step
 prev-by-unbroken w (such x) p sound h = one-all sound none-all
 prev-by-unbroken w no-such no-such sound h = one-all sound none-all
-prev-by-unbroken w no-such (such p) sound h = either (left-left-aside p)
+prev-by-unbroken w no-such (such p) sound h = either (skipped-left p)
   where
     d : Way
     d = way (down right) (p .below) (p .left-part)
@@ -73,8 +73,8 @@ module _ (m : ℕ) (t : Tree) (h : intact t ≡ true) where
   unfolding next
   next-ways k =
       let w : Way = way (passing-equal k) m t in
-      next-by-unbroken w (end-if (ltb k) w) (last-such right-left-aside (w .passed)) (unbroken (passing-equal k) m t h)
-      (last-such-one right-left-aside (passed-intact (passing-equal k) m t h))
+      next-by-unbroken w (end-if (ltb k) w) (last-such skipped-right (w .passed)) (unbroken (passing-equal k) m t h)
+      (last-such-one skipped-right (passed-intact (passing-equal k) m t h))
 
   prev-ways : (k : ℕ) → Unbroken (prev m k t .ways)
   unfolding prev

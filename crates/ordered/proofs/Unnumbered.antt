@@ -1,5 +1,5 @@
--- The rows that a call reads do not depend on row numbers or serials: on a tree with other row numbers and other entries for the same words it
--- reads as many. So it reads as many as of the PreTree of the tree's entries, and as many as of every PreTree of the same words.
+-- How many rows a call reads does not depend on row numbers or serials. So a call on a proper tree reads as many rows as on the PreTree of the
+-- tree's entries, and as many as on the PreTree of any set with the same words.
 use Prim.Native.Nat.{ℕ, zero, suc, _+_}
 use mathlib.Core.Path.{_≡_, refl, sym, ap, ap₂, _∙_}
 use mathlib.Core.Bool.{Bool, true, false, _&&_}
@@ -12,7 +12,7 @@ use Rattle.ordered.specs.Dictionary.{Entry, words}
 use Rattle.ordered.specs.Tree.{Tree, none, row, damaged, exists, entries, unnumbered, going, treeOf}
 use Rattle.ordered.specs.Proper.{Proper}
 use Rattle.ordered.specs.Way.{Step, Way, Rule, Turn, stop, to, way, rows, endRows, passing, turning, joined, following, passing-equal, pushing, down, staying}
-use Rattle.ordered.specs.Reading.{wordIn, Found, passed-row, Reading, rowsOf, root-row, end-row, end-if, to-its-end, has, right-left-aside, next-by, next, left-left-aside, prev-by, prev, first, last, gap-by, gap}
+use Rattle.ordered.specs.Reading.{wordIn, Found, passed-row, Reading, rowsOf, root-row, end-row, end-if, to-its-end, has, skipped-right, next-by, next, skipped-left, prev-by, prev, first, last, gap-by, gap}
 use Rattle.ordered.specs.Change.{Adding, Erasing, ends-at, adding-by, adding, erasing-by, erasing}
 use Rattle.ordered.proofs.OneTree.{one-tree}
 use Rattle.ordered.proofs.Ways.{step, Blind, following-blind, passing-equal-blind, pushing-blind, staying-blind, down-blind}
@@ -23,7 +23,7 @@ relabelled g none = none
 relabelled g (row i e l r) = row 0 (g e) (relabelled g l) (relabelled g r)
 relabelled g damaged = damaged
 
--- what is counted over a tree depends on the words of its entries alone
+-- f does not depend on row numbers, or on anything of an entry but its word
 abbrev pub SeesWords : {A : Type 0} → (Tree → A) → Type 0
 SeesWords f = (g : Entry → Entry) → ((e : Entry) → g e .key ≡ e .key) → (t : Tree) → f (relabelled g t) ≡ f t
 
@@ -31,7 +31,7 @@ module _ (g : Entry → Entry) (keeps : (e : Entry) → g e .key ≡ e .key) whe
   abbrev bare : Tree → Tree
   bare = relabelled g
 
-  -- a step, a way, what is found and a reading of the other tree
+  -- a step, a way, a found row and a reading, carried over to the relabelled tree
   abbrev bare-step : Step → Step
   bare-step s = step (s .below) 0 (g (s .entry)) (bare (s .left-part)) (bare (s .right-part)) (s .turn)
 
@@ -165,9 +165,9 @@ module _ (g : Entry → Entry) (keeps : (e : Entry) → g e .key ≡ e .key) whe
       rw (
         way-bare (passing-equal k) (passing-equal-blind k) m t,
         end-bare (ltb k) w,
-        found-bare right-left-aside (λ s. ap (λ b. isSide left (s .turn) && b) (exists-bare (s .right-part))) (w .passed),
+        found-bare skipped-right (λ s. ap (λ b. isSide left (s .turn) && b) (exists-bare (s .right-part))) (w .passed),
       )
-      (next-by-bare w (end-if (ltb k) w) (last-such right-left-aside (w .passed)))
+      (next-by-bare w (end-if (ltb k) w) (last-such skipped-right (w .passed)))
 
   prev-by-bare : (w : Way) (q : Perhaps Found) (p : Perhaps Step)
       → prev-by (bare-way w) (bare-found q) (bare-perhaps p) ≡ bare-reading (prev-by w q p)
@@ -175,7 +175,7 @@ module _ (g : Entry → Entry) (keeps : (e : Entry) → g e .key ≡ e .key) whe
   prev-by-bare w no-such no-such = refl
   prev-by-bare w no-such (such p) =
       rw (exists-bare (p .left-part), to-end-bare (w ∷ []) (down right) (down-blind right) (p .below) (p .left-part))
-      (either (left-left-aside p))
+      (either (skipped-left p))
     where
       alone : Way → Step → Reading Found
       alone v s = record { ways = v ∷ []; answer = such (passed-row s) }
@@ -266,7 +266,7 @@ module _ (g : Entry → Entry) (keeps : (e : Entry) → g e .key ≡ e .key) whe
   set-bare (suc m) (e ∷ S) =
       rw (going-bare left m S, going-bare right m S) (ap₂ (row 0 (g e)) (set-bare m (going left m S)) (set-bare m (going right m S)))
 
--- every call reads as many rows
+-- every call reads as many rows of the relabelled tree
 module _ (m : ℕ) where
   pub way-sees : (f : Rule) → Blind f → SeesWords (λ t. rows (way f m t))
   way-sees f blind g keeps t = rw (way-bare g keeps f blind m t) (rows-bare g keeps (way f m t))
@@ -299,7 +299,7 @@ module _ (m : ℕ) where
   pub erasing-sees : (k : ℕ) → SeesWords (λ t. rows (erasing m k t .rows-read))
   erasing-sees k g keeps t = erasing-bare g keeps m k t
 
--- row numbers apart, a tree is the one with its own entries
+-- relabelling with the same entries only removes the row numbers
 numbers-only : (t : Tree) → relabelled (λ e. e) t ≡ unnumbered t
 unfolding relabelled unnumbered
 numbers-only none = refl
@@ -309,7 +309,7 @@ numbers-only damaged = refl
 abbrev without-serial : Entry → Entry
 without-serial e = record { key = e .key; serial = 0 }
 
--- two sets of the same words are equal without their serials
+-- two sets of the same words are equal once the serials are removed
 same-without : (S S′ : List Entry) → words S ≡ words S′ → map without-serial S ≡ map without-serial S′
 same-without [] [] same = refl
 same-without [] (e ∷ S′) same = cc
@@ -323,11 +323,11 @@ module _ {A : Type 0} (f : Tree → A) (sees : SeesWords f) where
   pub numbers-unseen : (t : Tree) → f (unnumbered t) ≡ f t
   numbers-unseen t = rw (← numbers-only t) (sees (λ e. e) (λ e. refl) t)
 
-  -- so what sees words alone is the same over a proper tree and over the PreTree of its entries,
-  pub on-its-set : (m path low : ℕ) (t : Tree) → Proper m path low t → f (treeOf m (entries t)) ≡ f t
+  -- what sees only words is the same over a proper tree and over the PreTree of its entries
+  on-its-set : (m path low : ℕ) (t : Tree) → Proper m path low t → f (treeOf m (entries t)) ≡ f t
   on-its-set m path low t h = rw (one-tree m path low t h) at (numbers-unseen t)
 
-  -- and over the PreTrees of two sets of the same words
+  -- it is the same over the PreTrees of two sets of the same words
   pub on-same-words : (m : ℕ) (S S′ : List Entry) → words S ≡ words S′ → f (treeOf m S) ≡ f (treeOf m S′)
   on-same-words m S S′ same =
       sym (sees without-serial (λ e. refl) (treeOf m S))

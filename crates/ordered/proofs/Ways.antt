@@ -1,4 +1,4 @@
--- Laws of every way, whatever its rule: how to prove one, how a way parts the listing of its tree, and what it passes in a proper tree.
+-- Laws of every way, whatever its rule: induction along a way, how a way divides the entries of its tree, and what it passes in a proper tree.
 use Prim.Native.Nat.{ℕ, zero, suc, _+_, _*_, _/_, _^_}
 use mathlib.Core.Path.{_≡_, refl, sym, ap, _∙_}
 use mathlib.Core.Bool.{Bool, true, false, _&&_}
@@ -10,10 +10,10 @@ use Rattle.ordered.specs.Dictionary.{Entry}
 use Rattle.ordered.specs.Tree.{Tree, none, row, damaged, part, exists, entries, intact}
 use Rattle.ordered.specs.Proper.{Proper}
 use Rattle.ordered.specs.Way.{Step, Way, Rule, Turn, stop, to, way, ending, passing, turning, broken, isDamaged, following, passing-equal, pushing, down, staying}
-use Rattle.ordered.specs.Grown.{linking, linked}
+use Rattle.ordered.specs.Grown.{linking, chained}
 use Rattle.ordered.proofs.Parts.{All, none-all, one-all}
 
--- where a way by the rule f ends: with no bit left, at an empty link, at damage, or at a row where the rule stops
+-- where a way by the rule f can end: with no bit left, at an empty link, at damage, or at a row where the rule stops
 pub data Stops (f : Rule) : ℕ → Tree → Type 0 where
   at-bottom : {t : Tree} → Stops f zero t
   at-none : {m : ℕ} → Stops f (suc m) none
@@ -23,8 +23,8 @@ pub data Stops (f : Rule) : ℕ → Tree → Type 0 where
 abbrev pub step : ℕ → ℕ → Entry → Tree → Tree → Side → Step
 step m i e l r s = record { at = i; entry = e; turn = s; left-part = l; right-part = r; below = m }
 
--- induction along a way: what holds where it ends, and holds from a row on where it holds from the part on to which the rule turns, holds
--- of the whole way
+-- Induction along a way: P holds of the whole way if it holds at the end, and if it holds from a row on whenever it holds from the part to
+-- which the rule turns there.
 module _ (f : Rule) (P : ℕ → Tree → Way → Type 0) where
   abbrev pub At-end : Type 0
   At-end = (m : ℕ) (t : Tree) → Stops f m t → P m t (ending m t)
@@ -46,7 +46,7 @@ along f P ends goes (suc m) (row i e l r) = turned (f m e l r) refl (λ s. along
     turned stop says rest = ends (suc m) (row i e l r) (at-stop says)
     turned (to s) says rest = goes m i e l r s says (rest s)
 
--- the part that lies left of a way at a row where it turns to a side, and the part that lies right of it
+-- at a row where a way turns to a side: the entries of the part to the left of the way, and of the part to the right
 abbrev pub left-aside : Side → Tree → List Entry
 left-aside left l = []
 left-aside right l = entries l
@@ -55,7 +55,7 @@ abbrev pub right-aside : Side → Tree → List Entry
 right-aside left r = entries r
 right-aside right r = []
 
--- the entries that lie left of a way, and those that lie right of it
+-- all entries to the left of a way, and all entries to the right
 unfoldable pub lower : List Step → List Entry
 lower [] = []
 lower (s ∷ ss) = s .entry ∷ (left-aside (s .turn) (s .left-part) ++ lower ss)
@@ -64,7 +64,7 @@ unfoldable pub upper : List Step → List Entry
 upper [] = []
 upper (s ∷ ss) = upper ss ++ right-aside (s .turn) (s .right-part)
 
--- what is put around the parts of a list of entries where a way turns
+-- one more row around a list of entries in three parts
 module _ (e : Entry) (aside : List Entry) {xs : List Entry} (a b c : List Entry) (rest : xs ≡ a ++ (b ++ c)) where
   around-left : e ∷ (xs ++ aside) ≡ (e ∷ a) ++ (b ++ (c ++ aside))
   around-left = rw rest (simp append-assoc)
@@ -72,37 +72,37 @@ module _ (e : Entry) (aside : List Entry) {xs : List Entry} (a b c : List Entry)
   around-right : e ∷ (aside ++ xs) ≡ (e ∷ (aside ++ a)) ++ (b ++ (c ++ []))
   around-right = rw rest (simp (append-assoc, append-nil))
 
--- so a tree linked from the rows of a way has the entries that lie left of the way of it, those linked where it ended, and those that lie right
-pub linked-entries : (ss : List Step) (t : Tree) → entries (linked ss t) ≡ lower ss ++ (entries t ++ upper ss)
-unfolding entries lower upper linked
-linked-entries [] t = sym (append-nil (entries t))
-linked-entries (s ∷ ss) t = around (s .turn) (linked-entries ss t)
+-- The entries of a tree chained from the rows of a way: those to the left of the way, those of the part at its end, and those to the right.
+pub chained-entries : (ss : List Step) (t : Tree) → entries (chained ss t) ≡ lower ss ++ (entries t ++ upper ss)
+unfolding entries lower upper chained
+chained-entries [] t = sym (append-nil (entries t))
+chained-entries (s ∷ ss) t = around (s .turn) (chained-entries ss t)
   where
-    around : (turn : Side) → entries (linked ss t) ≡ lower ss ++ (entries t ++ upper ss)
-        → entries (linking (s .at) (s .entry) turn (s .left-part) (s .right-part) (linked ss t))
+    around : (turn : Side) → entries (chained ss t) ≡ lower ss ++ (entries t ++ upper ss)
+        → entries (linking (s .at) (s .entry) turn (s .left-part) (s .right-part) (chained ss t))
         ≡ (s .entry ∷ (left-aside turn (s .left-part) ++ lower ss)) ++ (entries t ++ (upper ss ++ right-aside turn (s .right-part)))
     around left rest = around-left (s .entry) (entries (s .right-part)) (lower ss) (entries t) (upper ss) rest
     around right rest = around-right (s .entry) (entries (s .left-part)) (lower ss) (entries t) (upper ss) rest
 
--- the rows of a way, linked again with the part at which it ended, are the tree
-pub linked-again : (f : Rule) (m : ℕ) (t : Tree) → linked (way f m t .passed) (way f m t .end) ≡ t
-unfolding linked
-linked-again f =
-    along f (λ m t w. linked (w .passed) (w .end) ≡ t) (λ m t ends. refl)
+-- the rows of a way, chained to the part at which it ended, are the tree
+pub chained-again : (f : Rule) (m : ℕ) (t : Tree) → chained (way f m t .passed) (way f m t .end) ≡ t
+unfolding chained
+chained-again f =
+    along f (λ m t w. chained (w .passed) (w .end) ≡ t) (λ m t ends. refl)
     (λ m i e l r s says rest. ap (linking i e s l r) rest ∙ own i e s l r)
   where
     own : (i : ℕ) (e : Entry) (s : Side) (l r : Tree) → linking i e s l r (part s l r) ≡ row i e l r
     own i e left l r = refl
     own i e right l r = refl
 
--- so every way parts the entries of its tree in three
+-- so every way divides the entries of its tree into three parts
 pub parted : (f : Rule) (m : ℕ) (t : Tree)
     → let w : Way = way f m t in entries t ≡ lower (w .passed) ++ (entries (w .end) ++ upper (w .passed))
 parted f m t =
     let w : Way = way f m t in
-    sym (ap entries (linked-again f m t)) ∙ linked-entries (w .passed) (w .end)
+    sym (ap entries (chained-again f m t)) ∙ chained-entries (w .passed) (w .end)
 
--- the parts on both sides of a row that is passed are proper
+-- a row that is passed has proper parts on both sides
 abbrev pub Proper-step : Step → Type 0
 Proper-step s =
     (σ : Side)
@@ -121,7 +121,7 @@ pub and-true : (a b : Bool) → (a && b) ≡ true → (a ≡ true) × (b ≡ tru
 and-true true b h = (refl, h)
 and-true false b h = (h, cc)
 
--- a tree without damage breaks no way
+-- no way meets damage in a tree without damage
 pub intact-part : (s : Side) (l r : Tree) → (intact l && intact r) ≡ true → intact (part s l r) ≡ true
 intact-part left l r h = and-true (intact l) (intact r) h .0
 intact-part right l r h = and-true (intact l) (intact r) h .1
@@ -170,7 +170,8 @@ pub passing-equal-seeks : (k : ℕ) → Seeks (passing-equal k) (λ x. leb x k) 
 unfolding passing-equal
 passing-equal-seeks k m e l r = refl
 
--- every rule of ours looks only at the word of a row and at whether a part exists, not at the serial or at what stands in the part
+-- A rule that looks only at the word of a row and at whether its parts exist, not at the serial or at what is in the parts. All our rules
+-- are blind.
 abbrev pub Blind : Rule → Type 0
 Blind f =
     (m : ℕ) (e e′ : Entry) (l r l′ r′ : Tree) → e′ .key ≡ e .key → exists l′ ≡ exists l → exists r′ ≡ exists r → f m e′ l′ r′ ≡ f m e l r

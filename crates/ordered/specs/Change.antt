@@ -1,4 +1,4 @@
--- What `add` and `del` do to a tree with m bits left: the rows that they read, and the entries that change their rows.
+-- What `add` and `del` do to a tree with m bits left: which rows they read, and which rows take another entry.
 use Prim.Native.Nat.{ℕ, zero, suc}
 use mathlib.Core.Bool.{Bool, true, false}
 use mathlib.Core.List.{List, [], _∷_, _++_}
@@ -15,25 +15,25 @@ pub record Take : Type 0 where
   pub at : ℕ
   pub entry : Entry
 
--- the way of k ends at k
+-- "the way of k ends at k"
 abbrev pub ends-at : ℕ → Way → Bool
 ends-at k w = isThere (end-if (eqb k) w)
 
--- the last row that a way passes: the row above its end, and the side to which it turned there, where the end is linked
+-- the last row that a way passes, if it passes any. Its link on the side of the turn leads to the end of the way.
 abbrev pub above-end : Way → Perhaps Step
 above-end w = last-such anything (w .passed)
 
--- a push: the first row takes the entry e, each next one the entry of the row before
+-- a push: the first row takes the entry e, and each row after it takes the entry of the row before
 unfoldable pub pushed : Entry → List Step → List Take
 pushed e [] = []
 pushed e (s ∷ ss) = record { at = s .at; entry = e } ∷ pushed (s .entry) ss
 
--- and this entry is left over for the new row
+-- the entry that is left over after a push. It goes into the new row.
 unfoldable pub left-over : Entry → List Step → Entry
 left-over e [] = e
 left-over e (s ∷ ss) = left-over (s .entry) ss
 
--- the number of the row at which a way ends
+-- the number of the root row; 0 if there is none
 abbrev pub numberAt : Tree → ℕ
 numberAt none = 0
 numberAt (row i e l r) = i
@@ -43,12 +43,12 @@ numberAt damaged = 0
 -- each next row's place in turn, until a link is none. The new row is [..] linked where the way or the push ended".
 -- Document 02 §1: "An `add` of a word already there still answers 7, but now stores the new serial."
 pub record Adding : Type 0 where
-  -- all the rows that are read: those of the way of k, then those that the push passes
+  -- all rows that are read: those on the way of k, then those that the push passes
   pub rows-read : Way
   -- the word is already there
   pub present : Bool
   pub takes : List Take
-  -- the entry of the new row, and the row and side where it is linked, unless the tree is empty
+  -- the entry of the new row, and the row and side where it is linked. In an empty tree it is linked nowhere.
   pub new-entry : Entry
   pub hook : Perhaps Step
 
@@ -69,7 +69,7 @@ adding m e t =
     let push : Way = way pushing (w .bits) (w .end) in
     adding-by e w push (joined w push) (ends-at (e .key) w)
 
--- an erase: each row of the stretch takes the entry of the row below it, the last one that of the hole
+-- an erase: each row of the stretch takes the entry of the row below it. The last one takes the entry of the hole.
 unfoldable pub raised : List Step → Entry → List Take
 raised [] hole = []
 raised (s ∷ []) hole = record { at = s .at; entry = hole } ∷ []
@@ -78,11 +78,11 @@ raised (s ∷ (t ∷ ss)) hole = record { at = s .at; entry = t .entry } ∷ rai
 -- "`del` k: the way of k, then from k's row down by left link, else right link, each row taking the key below; the last row of this
 -- stretch, the hole, is unlinked."
 pub record Erasing : Type 0 where
-  -- all the rows that are read: those of the way of k, then those of the stretch below
+  -- all rows that are read: those on the way of k, then those of the stretch below
   pub rows-read : Way
   pub present : Bool
   pub takes : List Take
-  -- the row at which the stretch ends, and the row and side where it is linked, unless it is the root
+  -- the row at which the stretch ends, and the row and side where it is linked. The root is linked nowhere.
   pub hole : ℕ
   pub hook : Perhaps Step
 

@@ -1,27 +1,25 @@
--- A set is a list of entries whose words strictly increase; and the ordered dictionary of source 004 over it, its operations in its order.
--- proofs/Dictionary.antt says each of them again in the source's words, about the words of the set, so that nobody has to trust the recursion.
+-- The ordered dictionary of source 004, its operations in the source's order. A set is a list of entries whose words strictly increase.
+-- The operations are recursive functions. Nobody has to trust the recursion: proofs/Dictionary.antt proves that each does what the source says.
 use Prim.Native.Nat.{ℕ, _<_}
 use mathlib.Core.Bool.{Bool, true, false}
 use mathlib.Core.List.{List, [], _∷_}
 use lib.Dec.{ltb, eqb}
 use Rattle.ordered.specs.Such.{if_then_else_, Perhaps, its, first-such, last-such, anything}
 
--- what the set keeps of a word, and what a push or an erase moves from row to row: the word, and the serial handed in with it last.
+-- What the set stores for a word: the word and the latest serial handed in with it. A push or an erase moves entries from row to row.
 -- Document 02 §1: "Each row gets a fourth word, the serial handed in with `add`, any 32-bit number."
 pub record Entry : Type 0 where
   pub key : ℕ
   pub serial : ℕ
 
--- where there is no entry, this one stands for it
+-- a stand-in where there is no entry
 abbrev pub no-entry : Entry
 no-entry = record { key = 0; serial = 0 }
 
--- the words of a list of entries
 abbrev pub words : List Entry → List ℕ
 words [] = []
 words (e ∷ s) = e .key ∷ words s
 
--- the word of an entry that was found
 abbrev pub wordOf : Perhaps Entry → Perhaps ℕ
 wordOf = its (λ e. e .key)
 
@@ -34,7 +32,7 @@ pub data Increasing : List ℕ → Type 0 where
   none-increasing : Increasing []
   one-increasing : {x : ℕ} {xs : List ℕ} → Above x xs → Increasing xs → Increasing (x ∷ xs)
 
--- "insert(x), which adds x to S": here its entry. An entry for the same word is replaced: `add` "now stores the new serial"
+-- "insert(x), which adds x to S". Here x comes with its serial. An entry for the same word is replaced: `add` "now stores the new serial".
 unfoldable pub insert : Entry → List Entry → List Entry
 insert e [] = e ∷ []
 insert e (f ∷ s) =
@@ -47,7 +45,7 @@ unfoldable pub is-empty : List Entry → Bool
 is-empty [] = true
 is-empty (e ∷ s) = false
 
--- "lookup(x), which returns whether x ∈ S": here with its entry
+-- "lookup(x), which returns whether x ∈ S". Here it also returns the entry of x.
 unfoldable pub lookup : ℕ → List Entry → Perhaps Entry
 lookup x s = first-such (λ e. eqb x (e .key)) s
 

@@ -1,4 +1,4 @@
--- A list of worked examples under one claim: what the definitions give is, line by line, what the document says.
+-- Worked examples as one claim: what the definitions give is, line by line, what the document says.
 use mathlib.Core.Path.{_≡_}
 use mathlib.Core.List.{List, [], _∷_}
 

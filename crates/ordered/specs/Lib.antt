@@ -1,9 +1,9 @@
--- Mathematics only, over every width: words and their bits, sets and the ordered dictionary of source 004, the tree of a set,
--- and the ways of document 01 over a tree. Read in this order.
+-- Mathematics only, for every width: words and their bits, sets and the ordered dictionary of source 004, the tree of a set,
+-- and the ways of document 01 over a tree. The files are listed in the order in which to read them.
 pub mod Such
 pub mod Word
 pub mod Dictionary
-pub mod Said
+pub mod Source004
 pub mod Tree
 pub mod Proper
 pub mod Way

@@ -1,4 +1,4 @@
--- The reading calls over a tree with m bits left: the ways that each goes, and what it finds.
+-- The reading calls over a tree with m bits left: the ways that each call goes, and what it finds.
 use Prim.Native.Nat.{ℕ, zero, suc, _+_, _-_, min}
 use mathlib.Core.Bool.{Bool, true, false, _&&_, _||_}
 use mathlib.Core.List.{List, [], _∷_, _++_}
@@ -9,7 +9,7 @@ use Rattle.ordered.specs.Dictionary.{Entry}
 use Rattle.ordered.specs.Tree.{Tree, none, row, damaged, exists}
 use Rattle.ordered.specs.Way.{Way, Step, way, rows, readOn, broken, ending, following, passing-equal, down, staying}
 
--- the row that a call finds: its entry, and the bits left there
+-- a row that a call finds: its entry, and the number of bits left at the row
 pub record Found : Type 0 where
   pub entry : Entry
   pub bits : ℕ
@@ -20,44 +20,42 @@ wordIn f = f .entry .key
 abbrev pub entryIn : Perhaps Found → Perhaps Entry
 entryIn = its (λ f. f .entry)
 
--- the ways that were gone, and the answer, if there is one: a row that was found, or a distance
+-- the ways that a call went, and its answer, if there is one: the row found, or a distance
 pub record Reading (A : Type 0) : Type 0 where
   pub ways : List Way
   pub answer : Perhaps A
 
--- the rows of all its ways
+-- how many rows the ways read
 unfoldable pub rowsOf : List Way → ℕ
 rowsOf [] = 0
 rowsOf (w ∷ ws) = rows w + rowsOf ws
 
--- and their numbers
+-- the numbers of these rows
 unfoldable pub readOf : List Way → List ℕ
 readOf [] = []
 readOf (w ∷ ws) = readOn w ++ readOf ws
 
--- damage on one of its ways
+-- whether one of the ways meets damage
 unfoldable pub brokenIn : List Way → Bool
 brokenIn [] = false
 brokenIn (w ∷ ws) = broken w || brokenIn ws
 
--- the row at the root of a part with m bits left
 abbrev pub root-row : ℕ → Tree → Perhaps Found
 root-row m none = no-such
 root-row m (row i e l r) = such (record { entry = e; bits = m })
 root-row m damaged = no-such
 
--- the row at which a way ends; and that row if its word passes a test
+-- the row at which a way ends, if it ends at one
 abbrev pub end-row : Way → Perhaps Found
 end-row w = root-row (w .bits) (w .end)
 
 abbrev pub end-if : (ℕ → Bool) → Way → Perhaps Found
 end-if test w = only-if (λ f. test (wordIn f)) (end-row w)
 
--- a row that a way passed
 abbrev pub passed-row : Step → Found
 passed-row s = record { entry = s .entry; bits = suc (s .below) }
 
--- a way whose last row is the answer
+-- the answer is the row at which the way w ends
 abbrev pub to-its-end : List Way → Way → Reading Found
 to-its-end before w = record { ways = before ++ (w ∷ []); answer = end-row w }
 
@@ -67,9 +65,9 @@ has m k t =
     let w : Way = way (following k) m t in
     record { ways = w ∷ []; answer = end-if (eqb k) w }
 
--- where the way went left and a right link exists
-abbrev pub right-left-aside : Step → Bool
-right-left-aside s = isSide left (s .turn) && exists (s .right-part)
+-- the way went left, and there is a right child
+abbrev pub skipped-right : Step → Bool
+skipped-right s = isSide left (s .turn) && exists (s .right-part)
 
 -- "its right child is read"
 abbrev pub right-child : Perhaps Step → Way
@@ -86,13 +84,13 @@ next-by w no-such p = to-its-end (w ∷ []) (right-child p)
 unfoldable pub next : ℕ → ℕ → Tree → Reading Found
 next m k t =
     let w : Way = way (passing-equal k) m t in
-    next-by w (end-if (ltb k) w) (last-such right-left-aside (w .passed))
+    next-by w (end-if (ltb k) w) (last-such skipped-right (w .passed))
 
--- the way turned right, and there is a left child
-abbrev pub left-left-aside : Step → Bool
-left-left-aside s = isSide right (s .turn) && exists (s .left-part)
+-- the way went right, and there is a left child
+abbrev pub skipped-left : Step → Bool
+skipped-left s = isSide right (s .turn) && exists (s .left-part)
 
--- the last row of the way with a key below k is its end, where there is no turn, or p, or there is none.
+-- The last row of the way with a key below k may be the end of the way, where there is no turn. Otherwise it is p, if there is one.
 -- "No such row: none. If the way turned right at p and p has a left child, go down from that child, right link first, else left link,
 -- until both are none; that row is the answer. Otherwise p."
 abbrev pub prev-by : Way → Perhaps Found → Perhaps Step → Reading Found
@@ -100,7 +98,7 @@ prev-by w (such x) p = record { ways = w ∷ []; answer = such x }
 prev-by w no-such no-such = record { ways = w ∷ []; answer = no-such }
 prev-by w no-such (such p) =
     let d : Way = way (down right) (p .below) (p .left-part) in
-    if left-left-aside p then to-its-end (w ∷ []) d
+    if skipped-left p then to-its-end (w ∷ []) d
     else record { ways = w ∷ []; answer = such (passed-row p) }
 
 -- "greatest word less than k": "the way of k. Let p be its last row with key below k."

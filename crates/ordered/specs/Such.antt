@@ -1,4 +1,4 @@
--- A choice by a test, and what is sought in a list: the first or the last of it that passes a test, or that there is no such thing.
+-- A choice by a test, and a search in a list: the first or the last element that passes a test, if there is one.
 use mathlib.Core.Bool.{Bool, true, false}
 use mathlib.Core.List.{List, [], _∷_}
 
@@ -12,12 +12,12 @@ pub data Perhaps (A : Type 0) : Type 0 where
   such : A → Perhaps A
 
 module _ {A : Type 0} where
-  -- the first of the two that there is
+  -- the first if it is there, else the second
   abbrev pub first-of : Perhaps A → Perhaps A → Perhaps A
   first-of (such a) q = such a
   first-of no-such q = q
 
-  -- it, if it passes the test
+  -- the same, if it passes the test
   abbrev pub only-if : (A → Bool) → Perhaps A → Perhaps A
   only-if p no-such = no-such
   only-if p (such a) = if p a then such a else no-such
@@ -37,7 +37,7 @@ module _ {A : Type 0} where
   isThere no-such = false
   isThere (such x) = true
 
--- f of it, if there is such a thing
+-- f applied to it, if it is there
 abbrev pub its : {A B : Type 0} → (A → B) → Perhaps A → Perhaps B
 its f no-such = no-such
 its f (such x) = such (f x)

@@ -1,4 +1,4 @@
--- The PreTree of a set, and the tree that a table shows, damage included: one type for both.
+-- One type for the PreTree of a set and for the tree that a table shows, which may have damage.
 -- Document 01: "The sound tree of a set is: its least word at the root, the rest parted by the next bit, and so on down."
 use Prim.Native.Nat.{ℕ, zero, suc, _+_}
 use mathlib.Core.Bool.{Bool, true, false, _&&_}
@@ -7,13 +7,12 @@ use Rattle.ordered.specs.Such.{if_then_else_}
 use Rattle.ordered.specs.Word.{Side, left, right, side, isSide}
 use Rattle.ordered.specs.Dictionary.{Entry, words}
 
--- none: an empty link; row: a row with its number, its entry, its left part and its right part; damaged: what no way may read
+-- none: an empty link; row: a row with its number, entry, left part and right part; damaged: what no way may read
 pub data Tree : Type 0 where
   none : Tree
   row : ℕ → Entry → Tree → Tree → Tree
   damaged : Tree
 
--- the part on one side of a row
 abbrev pub part : Side → Tree → Tree → Tree
 part left l r = l
 part right l r = r
@@ -38,7 +37,7 @@ size none = 0
 size (row i e l r) = suc (size l + size r)
 size damaged = 0
 
--- no damage anywhere
+-- whether there is no damage
 unfoldable pub intact : Tree → Bool
 intact none = true
 intact (row i e l r) = intact l && intact r
@@ -50,15 +49,15 @@ unnumbered none = none
 unnumbered (row i e l r) = row 0 e (unnumbered l) (unnumbered r)
 unnumbered damaged = damaged
 
--- the entries whose words go to side s from a row with m + 1 bits left
+-- the entries whose words go to side s at a row with m + 1 bits left
 unfoldable pub going : Side → ℕ → List Entry → List Entry
 going s m [] = []
 going s m (e ∷ es) =
     if isSide s (side m (e .key)) then e ∷ going s m es
     else going s m es
 
--- the PreTree of a set whose words agree in all but their last m bits: "its least word at the root, the rest parted by
--- the next bit"; with no bit left there is no rest
+-- The PreTree of a set whose words differ only in their last m bits: "its least word at the root, the rest parted by
+-- the next bit". With no bit left there is no rest.
 unfoldable pub treeOf : ℕ → List Entry → Tree
 treeOf zero [] = none
 treeOf zero (e ∷ es) = row 0 e none none

@@ -1,4 +1,4 @@
--- A way: the rows that are read going down a tree, and where it ends. Each way of document 01 is this one with a rule of its own.
+-- A way: the rows that are read going down a tree, and where it ends. Each way of document 01 is `way` with a different rule.
 use Prim.Native.Nat.{ℕ, zero, suc, _+_}
 use mathlib.Core.Bool.{Bool, true, false}
 use mathlib.Core.List.{List, [], _∷_, _++_, map}
@@ -9,7 +9,7 @@ use Rattle.ordered.specs.Word.{Side, other, side}
 use Rattle.ordered.specs.Dictionary.{Entry}
 use Rattle.ordered.specs.Tree.{Tree, none, row, damaged, part, exists}
 
--- a row that a way passes, the side to which it turns there, and the bits left below
+-- a row that a way passes: its number, entry and parts, the side to which the way turns, and the number of bits left below
 pub record Step : Type 0 where
   pub at : ℕ
   pub entry : Entry
@@ -18,8 +18,8 @@ pub record Step : Type 0 where
   pub right-part : Tree
   pub below : ℕ
 
--- the rows passed, from the root down, and the part at which the way ends, with the bits left there: an empty link; a row, which is
--- read and where there is no turn; or damage
+-- the rows passed, from the root down, the number of bits left at the end, and the part at which the way ends. That part is an empty
+-- link, damage, or a row; such a row is read, and there is no turn at it.
 pub record Way : Type 0 where
   pub passed : List Step
   pub bits : ℕ
@@ -34,7 +34,7 @@ endRows damaged = 0
 unfoldable pub rows : Way → ℕ
 rows w = length (w .passed) + endRows (w .end)
 
--- and the numbers of these rows
+-- the numbers of the rows that are read
 abbrev pub endNumber : Tree → List ℕ
 endNumber none = []
 endNumber (row i e l r) = i ∷ []
@@ -48,16 +48,16 @@ isDamaged none = false
 isDamaged (row i e l r) = false
 isDamaged damaged = true
 
--- damage on the way
+-- whether the way meets damage
 unfoldable pub broken : Way → Bool
 broken w = isDamaged (w .end)
 
--- what a way does at a row: it stops there, or turns to a side
+-- what a way does at a row: it stops, or it turns to a side
 pub data Turn : Type 0 where
   stop : Turn
   to : Side → Turn
 
--- a rule says so of a row with m + 1 bits left, by m, its entry and its two parts
+-- what a way does at a row with m + 1 bits left, given m, the row's entry and its two parts
 abbrev pub Rule : Type 0
 Rule = ℕ → Entry → Tree → Tree → Turn
 
@@ -72,7 +72,7 @@ turning onward m i e l r stop = ending (suc m) (row i e l r)
 turning onward m i e l r (to s) =
     passing (record { at = i; entry = e; turn = s; left-part = l; right-part = r; below = m }) (onward (part s l r))
 
--- from the root of t, with m bits left, by the rule f: "A way turns left or right at a row by the deciding bit, also where the link on
+-- The way by the rule f from the root of t, with m bits left. "A way turns left or right at a row by the deciding bit, also where the link on
 -- that side is empty; at depth W, and at a row where it stops for its key, there is no turn."
 unfoldable pub way : Rule → ℕ → Tree → Way
 way f zero t = ending zero t
@@ -80,7 +80,7 @@ way f (suc m) none = ending (suc m) none
 way f (suc m) damaged = ending (suc m) damaged
 way f (suc m) (row i e l r) = turning (way f m) m i e l r (f m e l r)
 
--- a way that goes on from its end as another
+-- the way w, continued from its end by the way v
 unfoldable pub joined : Way → Way → Way
 joined w v = record { passed = w .passed ++ v .passed; bits = v .bits; end = v .end }
 
@@ -107,6 +107,6 @@ down s m e l r =
     else if exists (part (other s) l r) then to (other s)
     else stop
 
--- only the row itself
+-- reads only the root
 unfoldable pub staying : Rule
 staying m e l r = stop

@@ -1,6 +1,6 @@
 -- Words and their bits, for every width W.
 -- Document 01: "At depth d, d below W, the bit that decides is bit W−1−d of the key, the highest first. 0 goes left, 1 goes right."
--- We count the bits that are left, m = W − d, and not the depth: m falls to 0 by itself on the way down.
+-- We count the bits left, m = W − d, instead of the depth, because recursion can then go down on m.
 use Prim.Native.Nat.{ℕ, zero, suc, _/_, _%_, _^_}
 use mathlib.Core.Bool.{Bool, true, false}
 
@@ -16,7 +16,7 @@ abbrev pub bitOf : Side → ℕ
 bitOf left = 0
 bitOf right = 1
 
--- the side to which the deciding bit of k sends it from a row with m + 1 bits left: bit W−1−d, where m + 1 = W − d
+-- the side to which k goes at a row with m + 1 bits left. The bit that decides is bit m: bit W−1−d, where m + 1 = W − d.
 unfoldable pub side : ℕ → ℕ → Side
 side m k = sideOf (k / 2 ^ m % 2)
 

@@ -1,1 +1,1 @@
-// Mathematics only: the definitions stand in specs/, their laws in proofs/.
+// Mathematics only: the definitions are in specs/, their laws in proofs/.

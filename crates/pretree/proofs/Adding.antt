@@ -1,4 +1,4 @@
--- The outcome of `add`, from the walk that went the way of the word and the walk that went on with the push.
+-- The outcome of `add`, from the walk of the word's way and the walk that continues it along the push.
 use Prim.Native.Nat.{ℕ, suc, _+_, _-_, _%_, _≤_, _<_}
 use mathlib.Core.Path.{_≡_, refl, sym, ap, _∙_, subst}
 use mathlib.Core.Bool.{Bool, true, false, true≢false}
@@ -28,30 +28,30 @@ use Rattle.pretree.specs.declared.seek.Seek.{Seek}
 use Rattle.pretree.specs.Table.{fromCode, capacity, rowAt, withSerial, withRow, hooked}
 use Rattle.pretree.specs.Unfold.{shown}
 use Rattle.pretree.specs.Reply.{wrong-header, too-wide, refused, answered}
-use Rattle.pretree.specs.Walk.{Walk, Stage, On, AtNone, AtRow, AtDamage, started, isOn, endRead, rowsRead, ended, treeAt, to-come, stepAt, remembered, seeking, Goes, Placed, Walked}
-use Rattle.pretree.specs.Resume.{isDamage, endsAt, again, resumed, Going}
-use Rattle.pretree.specs.Leg.{rootPlace, OnLeg, GoesOn}
+use Rattle.pretree.specs.Walk.{Walk, Stage, On, AtNone, AtRow, AtDamage, started, isOn, endRead, rowsRead, ended, treeAt, to-come, stepAt, remembered, seeking, Ahead, Placed, OnWay, Walked}
+use Rattle.pretree.specs.Resume.{isDamage, endsAt, again, resumed}
+use Rattle.pretree.specs.Leg.{rootPlace, OnLeg, StaysOnWay}
 use Rattle.pretree.specs.Seek.{rowOf, aboveOf, bitsLeft, placeOf, SeekEnds}
 use Rattle.pretree.specs.Add.{taking, hooking, grown, addOutcome}
 use Rattle.pretree.specs.Push.{takes-from, left-from, endBits, endSide, grownAt, Growable, grownOutcome, Displaces}
 use Rattle.pretree.proofs.Rows.{own-key}
 use Rattle.pretree.proofs.Checks.{right-header}
 use Rattle.pretree.proofs.Walking.{at-none, at-damage, begins-root}
-use Rattle.pretree.proofs.Seeking.{following-is}
+use Rattle.pretree.proofs.SeekTurn.{following-is}
 use Rattle.pretree.proofs.Sought as Sought
 use Rattle.pretree.proofs.Places.{bits-there, root-stands}
-use Rattle.pretree.proofs.Ended.{endPart, all-gone, rows-gone}
-use Rattle.pretree.proofs.Resuming.{resumes, Told, told, rows-used, shown-used}
+use Rattle.pretree.proofs.Ended.{endPart, way-end, way-rows}
+use Rattle.pretree.proofs.Resuming.{resumes, WholeWayEnd, whole-way-end, rows-used, shown-used}
 use Rattle.pretree.proofs.Pushing.{rises-within, Pushed, none-pushed, is-pushed, no-end-row}
 
--- where the row above is remembered, the new row is linked there
+-- a link at the step that a walk remembers is a link at that row, if there is one
 pub hooks : (rows : ℕ → Rows.Row) (n m above i : ℕ) (s : Side) (table : List ℕ) (b : Bool)
     → hooking (remembered rows n b m above s) i table ≡ hooked b above s i table
 unfolding stepAt
 hooks rows n m above i s table true = refl
 hooks rows n m above i s table false = refl
 
--- the numbers of a leg are those of the walk that is with it
+-- the bits and the side at the end of a leg are those of the walk that goes with it
 module _ (count : ℕ) (l : Leg) (p : Walk) (on : OnLeg count l p) where
   end-bits : endBits l ≡ p .bits
   end-bits = bits-there (l .at) p (on .stands)
@@ -59,7 +59,7 @@ module _ (count : ℕ) (l : Leg) (p : Walk) (on : OnLeg count l p) where
   end-side : endSide l ≡ sideOf (p .path % 2)
   end-side = rw (end-bits, on .stands .path, shl-shr (p .path) (p .bits))
 
--- where the word is not there: the writes one after the other, and the outcome
+-- an absent word: the writes one after the other, and the outcome
 module _ (h : Header) (table : List ℕ) (e : Entry) (from bits end above : ℕ) (s : Side) where
   pub writes-grow : {entry : Entry} {pushed linked after : List ℕ}
       → entry ≡ left-from (rowAt table) end (bits - end) from e
@@ -101,15 +101,15 @@ module _ (h : Header) (table : List ℕ) (e : Entry) (w : Walk) (fine : wrong-he
   abbrev whole : Way
   whole = joined first push
 
-  on-whole : Going rows pushing (h .width) (h .count) whole (resumed w)
+  on-whole : OnWay rows pushing (h .width) (h .count) whole (resumed w)
   on-whole =
-      subst (λ (n : ℕ). Going rows pushing (h .width) n whole (resumed w)) (gone .walking .same-count)
+      subst (λ (n : ℕ). OnWay rows pushing (h .width) n whole (resumed w)) (gone .walking .same-count)
       (resumes rows (seeking k k) pushing (h .width) (h .count) (shown h table) w gone)
 
   pub in-table : w .count ≤ capacity table
   in-table = rw (gone .walking .same-count) (right-header h table fine .has-room)
 
-  -- the rows of the push rise, and are in use
+  -- the keys of the push increase, and its rows are in use
   record Known (v : Way) : Type 0 where
     by-numbers : Pushed rows (w .count) (w .bits) (w .row) (w .low) v
     used : All (λ s. s .at < w .count) (v .passed)
@@ -118,12 +118,12 @@ module _ (h : Header) (table : List ℕ) (e : Entry) (w : Walk) (fine : wrong-he
   from-end P t e b p = rw (← e, ← b) p
 
   known : Known push
-  known = by-stage (w .stage) (gone .ended) (gone .walking .goes)
+  known = by-stage (w .stage) (gone .ended) (gone .walking .ahead)
     where
       ended-there : (t : Tree) → Known (Ways.ending (w .bits) t)
       ended-there t = record { by-numbers = none-pushed rows (w .count) (w .bits) (w .row) (w .low) t; used = none-all }
 
-      by-stage : (stage : Stage) → isOn stage ≡ false → Goes rows (h .width) first w (to-come rows (seeking k k) w stage) → Known push
+      by-stage : (stage : Stage) → isOn stage ≡ false → Ahead rows (h .width) first w (to-come rows (seeking k k) w stage) → Known push
       by-stage On off g = absurd (true≢false off)
       by-stage AtNone off g = from-end Known none (g .end) (g .bits) (rw (at-none pushing (w .bits)) (ended-there none))
       by-stage AtDamage off g = from-end Known damaged (g .end) (g .bits) (rw (at-damage pushing (w .bits)) (ended-there damaged))
@@ -137,12 +137,12 @@ module _ (h : Header) (table : List ℕ) (e : Entry) (w : Walk) (fine : wrong-he
   -- a push from a row with bits left does not end at a row
   ends-free : (m : ℕ) → w .stage ≡ AtRow → w .bits ≡ suc m → endRows (push .end) ≡ 0
   ends-free m at bits =
-      let g : Goes rows (h .width) first w (to-come rows (seeking k k) w AtRow)
-      = subst (λ (s : Stage). Goes rows (h .width) first w (to-come rows (seeking k k) w s)) at (gone .walking .goes) in
+      let g : Ahead rows (h .width) first w (to-come rows (seeking k k) w AtRow)
+      = subst (λ (s : Stage). Ahead rows (h .width) first w (to-come rows (seeking k k) w s)) at (gone .walking .ahead) in
       from-end (λ (v : Way). endRows (v .end) ≡ 0) (treeAt rows w) (g .end) (g .bits) (rw bits (no-end-row rows (w .count) m (w .path) (w .low) (w .row)))
 
   pub there : ends-at k first ≡ endsAt k (w .entry .key) (w .stage)
-  there = rw (all-gone rows _ _ _ _ w gone .end) (by-stage (w .stage))
+  there = rw (way-end rows _ _ _ _ w gone .end) (by-stage (w .stage))
     where
       by-key : (b : Bool) → isThere {A = Found} (if b then such (record { entry = w .entry; bits = first .bits }) else no-such) ≡ b
       by-key true = refl
@@ -157,7 +157,7 @@ module _ (h : Header) (table : List ℕ) (e : Entry) (w : Walk) (fine : wrong-he
   -- a way that ends at the word is not broken
   whole-there : endsAt k (w .entry .key) (w .stage) ≡ true → broken first ≡ false
   unfolding broken
-  whole-there is = rw (all-gone rows _ _ _ _ w gone .end) (by-stage (w .stage) is)
+  whole-there is = rw (way-end rows _ _ _ _ w gone .end) (by-stage (w .stage) is)
     where
       by-stage : (stage : Stage) → endsAt k (w .entry .key) stage ≡ true → isDamaged (endPart rows _ _ _ _ w gone stage) ≡ false
       by-stage On e = refl
@@ -174,25 +174,25 @@ module _ (h : Header) (table : List ℕ) (e : Entry) (w : Walk) (fine : wrong-he
       ≡ record { reply = answered h AlreadyThere (rowsRead w (h .width)); table = withSerial (w .row) (e .serial) table }
   unfolding addOutcome adding taking
   present-outcome small is at =
-      rw (fine, small, following-is k, there, is, whole-there is, rows-gone rows _ _ _ _ w gone, all-gone rows _ _ _ _ w gone .end, at)
+      rw (fine, small, following-is k, there, is, whole-there is, way-rows rows _ _ _ _ w gone, way-end rows _ _ _ _ w gone .end, at)
       (ap (λ t. record { reply = answered h AlreadyThere (h .width - w .bits + 1); table = t })
       (own-key (w .row) (fromCode e) table (own-key-there at (at-key at))))
     where
       at-key : w .stage ≡ AtRow → k ≡ w .entry .key
       at-key at = eqb-true k (w .entry .key) (subst (λ (stage : Stage). endsAt k (w .entry .key) stage ≡ true) at is)
 
-  -- the walk p went on to the end of the push
-  module _ (p : Walk) (goes : GoesOn rows pushing (h .count) (resumed w) p) (off : isOn (p .stage) ≡ false) where
-    abbrev going : Going rows pushing (h .width) (h .count) whole p
-    going = goes (h .width) whole on-whole
+  -- the walk p has gone on to the end of the push
+  module _ (p : Walk) (stays-on : StaysOnWay rows pushing (h .count) (resumed w) p) (off : isOn (p .stage) ≡ false) where
+    abbrev on-way : OnWay rows pushing (h .width) (h .count) whole p
+    on-way = stays-on (h .width) whole on-whole
 
-    all-told : Told rows pushing (h .width) (h .count) whole p off going (p .stage)
-    all-told = told rows pushing (h .width) (h .count) whole p off going
+    whole-end : WholeWayEnd rows pushing (h .width) (h .count) whole p off on-way (p .stage)
+    whole-end = whole-way-end rows pushing (h .width) (h .count) whole p off on-way
 
-    -- the push by its numbers
+    -- the bits, the length and the entries of the push, from the walk
     end-is : push .bits ≡ p .bits
     unfolding joined
-    end-is = all-told .bits
+    end-is = whole-end .bits
 
     passed-is : length (push .passed) ≡ w .bits - p .bits
     passed-is = omega (arith, known .by-numbers .number, end-is)
@@ -212,7 +212,7 @@ module _ (h : Header) (table : List ℕ) (e : Entry) (w : Walk) (fine : wrong-he
               let all : All (λ s. s .at < h .count) (first .passed ++ push .passed)
               = all-append (shown-used (seeking k k) h table) (rw (gone .walking .same-count) at (known .used)) in
               let last : If-such (λ s. s .at < h .count) (last-such anything (first .passed ++ push .passed)) = last-such-one anything all in
-              lt-of-lt-of-le (rw (all-told .above, lt-ltb (p .bits) (h .width) some) at last) (right .has-room);
+              lt-of-lt-of-le (rw (whole-end .above, lt-ltb (p .bits) (h .width) some) at last) (right .has-room);
         }
 
     grown-is : grown (h .count) (adding-by (fromCode e) first push whole false) table
@@ -224,23 +224,23 @@ module _ (h : Header) (table : List ℕ) (e : Entry) (w : Walk) (fine : wrong-he
           known .by-numbers .left-entry e,
           end-is,
           passed-is,
-          all-told .above,
+          whole-end .above,
           hooks rows (p .count) (p .bits) (p .above) (h .count) (sideOf (p .path % 2)) _ (ltb (p .bits) (h .width)),
         )
 
     whole-broken : broken whole ≡ isDamage (p .stage)
     unfolding broken
-    whole-broken = all-told .damage
+    whole-broken = whole-end .damage
 
     whole-rows : Ways.rows whole ≡ rowsRead p (h .width)
     unfolding Ways.rows
-    whole-rows = rw (all-told .number, all-told .end-rows)
+    whole-rows = rw (whole-end .number, whole-end .end-rows)
 
-    -- from a row with bits left it did not end at a row
+    -- a push from a row with bits left did not end at a row
     pub not-at-row : (m : ℕ) → w .stage ≡ AtRow → w .bits ≡ suc m → p .stage ≡ AtRow → ⊥
     unfolding joined
     not-at-row m at bits ends =
-        let one : endRows (push .end) ≡ 1 = all-told .end-rows ∙ ap endRead ends in
+        let one : endRows (push .end) ≡ 1 = whole-end .end-rows ∙ ap endRead ends in
         let no-row : endRows (push .end) ≡ 0 = ends-free m at bits in
         omega arith
 
@@ -255,7 +255,7 @@ module _ (h : Header) (table : List ℕ) (e : Entry) (w : Walk) (fine : wrong-he
       free-outcome ends =
           rw (fine, small, following-is k, there, absent, whole-broken, whole-rows, grown-is, ends, add-zero (h .width - p .bits))
 
-    -- by the numbers of the code, with the leg l where p is
+    -- the outcome in terms of the leg l, which is where p is
     module _ (from bits : ℕ) (l : Leg) (row : from ≡ w .row) (left : bits ≡ w .bits) (on : OnLeg (h .count) l p) where
       pub growable : Growable h table from bits (endBits l) (l .above)
       growable = rw (row, left, end-bits (h .count) l p on, on .above) grows
@@ -265,11 +265,11 @@ module _ (h : Header) (table : List ℕ) (e : Entry) (w : Walk) (fine : wrong-he
       grown-outcome small absent ends =
           rw (row, left, end-side (h .count) l p on, end-bits (h .count) l p on, on .above) (free-outcome small absent ends)
 
-  -- where the way ended at no row, the walk stays as it is
-  stays : (stage : Stage) → w .stage ≡ stage → again stage ≡ stage → GoesOn rows pushing (h .count) (resumed w) w
+  -- if the way did not end at a row, `resumed` leaves the walk as it is
+  stays : (stage : Stage) → w .stage ≡ stage → again stage ≡ stage → StaysOnWay rows pushing (h .count) (resumed w) w
   stays stage at same width v g =
       let is : resumed w ≡ w = ap (λ (s : Stage). ended w s (w .entry)) (ap again at ∙ same ∙ sym at) in
-      subst (λ (u : Walk). Going rows pushing width (h .count) v u) is g
+      subst (λ (u : Walk). OnWay rows pushing width (h .count) v u) is g
 
 -- the empty set: the root is the place of the new row
 module _ (h : Header) (table : List ℕ) (e : Entry) (fine : wrong-header h table ≡ false) (empty : h .count ≡ 0) where

@@ -1,4 +1,4 @@
--- How far a key lies from a word tells whether it has the bits of the word's path: the numbers of a seek.
+-- The numbers of a seek. The distance of a key from a word tells whether the key has the bits of the word's path.
 use Prim.Native.Nat.{ℕ, zero, suc, pred, _+_, _*_, _-_, _/_, _%_, _^_, _≤_, _<_}
 use mathlib.Core.Path.{_≡_, refl, sym, ap, _∙_, subst}
 use mathlib.Core.Bool.{Bool, true, false, not, _&&_}
@@ -15,7 +15,7 @@ use Rattle.ordered.specs.Word.{Side, left, right, sideOf, bitOf, side}
 use Rattle.ordered.proofs.Bits.{next-bit}
 use Rattle.pretree.specs.Seek.{bitsLeft}
 
--- The words with the bits of k's path, where b bits are left: they begin at k / 2 ^ b * 2 ^ b, and k is the k % 2 ^ b th of them.
+-- The words with the bits of k's path, where b bits are left, are 2 ^ b words from k / 2 ^ b * 2 ^ b on. k itself comes after k % 2 ^ b of them.
 module _ (k key b : ℕ) where
   of-part : k / 2 ^ b * 2 ^ b ≤ key → key < k / 2 ^ b * 2 ^ b + 2 ^ b → key / 2 ^ b ≡ k / 2 ^ b
   of-part from to = div-eq-of-lt-le (2 ^ b) from (rw (add-one (k / 2 ^ b), suc-mul (k / 2 ^ b) (2 ^ b)) to)
@@ -26,7 +26,7 @@ module _ (k key b : ℕ) where
       let rest : key % 2 ^ b < 2 ^ b = mod-lt key (pow-pos b) in
       (omega arith, omega arith)
 
-  -- a key less than k is one of them if fewer words than k's rest lie between
+  -- a key less than k is one of them if and only if fewer than k % 2 ^ b words are between it and k
   pub below-in : key < k → k - 1 - key < k % 2 ^ b → key / 2 ^ b ≡ k / 2 ^ b
   below-in less few =
       let whole : k / 2 ^ b * 2 ^ b + k % 2 ^ b ≡ k = split k b in
@@ -39,7 +39,7 @@ module _ (k key b : ℕ) where
       let from : k / 2 ^ b * 2 ^ b ≤ key = in-part e .0 in
       omega arith
 
-  -- and a key past k, if it is no farther than the last of them
+  -- a key of k or more is one of them if and only if it is not past the last of them
   pub above-in : k ≤ key → key - k ≤ 2 ^ b - 1 - k % 2 ^ b → key / 2 ^ b ≡ k / 2 ^ b
   above-in past near =
       let whole : k / 2 ^ b * 2 ^ b + k % 2 ^ b ≡ k = split k b in
@@ -70,7 +70,7 @@ rest-is m k = rw (← go (side m k) (next-bit m k)) (rw (add-comm 1 m, add-one m
     go left e = omega arith
     go right e = omega arith
 
--- the top bit of the rest is the bit that decides
+-- the top bit of the remaining bits says the turn
 pub turns-so : (m k : ℕ) → (if ltb ((2 ^ suc m - 1) / 2) (k % 2 ^ suc m) then 1 else 0) ≡ bitOf (side m k)
 turns-so m k = rw (half-mask m, rest-is m k) (go (side m k))
   where
@@ -81,11 +81,11 @@ turns-so m k = rw (half-mask m, rest-is m k) (go (side m k))
     go left = let small : 0 * 2 ^ m + k % 2 ^ m ≤ 2 ^ m - 1 = omega (arith, low) in rw (le-ltb _ _ small)
     go right = let large : 2 ^ m - 1 < 1 * 2 ^ m + k % 2 ^ m = omega (arith, pow-pos m) in rw (lt-ltb _ _ large)
 
--- and without it the rest is the next one
+-- without the top bit these are the remaining bits one row further down
 pub next-rest : (m k : ℕ) → bitAnd (k % 2 ^ suc m) ((2 ^ suc m - 1) / 2) ≡ k % 2 ^ m
 next-rest m k = rw (half-mask m, and-mask (k % 2 ^ suc m) m) (rw (add-comm 1 m, add-one m) at (mod-mod-pow k 1 m))
 
--- the bits left are as many as the mask has
+-- the bits left are the ones of the mask
 pub bits-are : (b : ℕ) → b ≤ 32 → bitsLeft (2 ^ b - 1) ≡ b
 bits-are b few =
     let some : 0 < 2 ^ b = pow-pos b in

@@ -1,4 +1,4 @@
--- What the checks that every call makes first leave known.
+-- What is known once the checks that every call makes first are passed.
 use Prim.Native.Nat.{ℕ, _^_, _≤_, _<_}
 use mathlib.Core.Path.{_≡_, refl, sym}
 use mathlib.Core.Bool.{Bool, true, false, _||_, true≢false}
@@ -40,11 +40,11 @@ pub narrow : (h : Header) (k : ℕ) → too-wide h k ≡ false → k < 2 ^ h .wi
 unfolding too-wide
 narrow h k e = leb-false (2 ^ h .width) k e
 
--- The checks of a call on a word, in one: it is not refused,
+-- the checks of a call on a word: if they do not refuse it, header and word are right
 pub not-refused : (h : Header) (table : List ℕ) (k : ℕ) → refuses h table k ≡ false → (wrong-header h table ≡ false) × (too-wide h k ≡ false)
 not-refused h table k e = neither (wrong-header h table) (too-wide h k) e
 
--- or its refusal is what its definition chooses, whatever would follow
+-- if they refuse it, the refusal is that of the definition, whatever would follow
 pub chosen : {A : Type 0} (h : Header) (table : List ℕ) (k : ℕ) (f : Reply → A) (further : A) → refuses h table k ≡ true
     → f (refusal h table)
     ≡ (if wrong-header h table then f (refused h WrongHeader)

@@ -1,4 +1,4 @@
--- A key is displaced: its row is passed at once, by the key's own bits, and the leg of the push goes on below it.
+-- A key is displaced: its row is passed, to the side that the key's own bits say, and the push continues below it.
 use Prim.Native.Nat.{ℕ, zero, suc, _-_, _/_, _^_, _<_}
 use mathlib.Core.Path.{_≡_, refl, sym, ap, _∙_, subst}
 use mathlib.Core.Bool.{true, false}
@@ -21,7 +21,7 @@ use Rattle.pretree.specs.Table.{fromCode, rowAt}
 use Rattle.pretree.specs.Reply.{wrong-header, too-wide, refused}
 use Rattle.pretree.specs.Walk.{Walk, AtNone, AtRow, AtDamage, stageAt, isOn, holds, Placed}
 use Rattle.pretree.specs.Resume.{endsAt, again, resumed}
-use Rattle.pretree.specs.Leg.{linkEnd, EndsSo, Stands, OnLeg, GoesOn, passesPush, ownSide, BegunLeg, LegWalk, LegGone, LegEnds}
+use Rattle.pretree.specs.Leg.{linkEnd, EndsAs, Stands, OnLeg, StaysOnWay, passesPush, ownSide, BegunLeg, LegWalk, LegStopped, LegEnds}
 use Rattle.pretree.specs.Seek.{bitsLeft}
 use Rattle.pretree.specs.Add.{addOutcome}
 use Rattle.pretree.specs.Push.{endBits, endSide, Growable, grownOutcome, Displaces}
@@ -46,7 +46,7 @@ module _ (h : Header) (table : List ℕ) (x : Entry) (at : Place) (r : Rows.Row)
   placed : Placed rows w AtRow
   placed = subst (Placed rows w) (d .ends .0) (d .walked .walking .placed)
 
-  -- with no bit left the row would have the word itself
+  -- with no bit left the row's key would be the word itself
   some-bits : (m : ℕ) × (w .bits ≡ suc m)
   some-bits = go (w .bits) refl
     where
@@ -69,7 +69,7 @@ module _ (h : Header) (table : List ℕ) (x : Entry) (at : Place) (r : Rows.Row)
   pub inner-place : 0 < at .mask
   inner-place = inner at w (d .stands) m bits
 
-  -- the walk wants the row again, and a leg is where it is
+  -- the row is the walk's next row again, and a leg is where the walk is
   abbrev rowLeg : Leg
   rowLeg = record { at = at; above = w .above }
 
@@ -82,7 +82,7 @@ module _ (h : Header) (table : List ℕ) (x : Entry) (at : Place) (r : Rows.Row)
         same-count = d .walked .walking .same-count;
       }
 
-  -- past the row, by its key's own bits
+  -- past the row, to the side that its key's own bits say
   abbrev past : Rows.Row → Leg
   past y = legPast rowLeg y (sideOf (ownSide (at .mask) (y .entry .key)))
 
@@ -97,8 +97,8 @@ module _ (h : Header) (table : List ℕ) (x : Entry) (at : Place) (r : Rows.Row)
   pub begun-push : BegunLeg (h .count) stageAt (past r)
   begun-push = record { walk = passes-first .walk; on = passes-first .on; stage = passes-first .stage }
 
-  -- and where the leg stops
-  module _ (leg : Leg) (gone : LegGone rows pushing (h .count) stageAt (passesPush rows (h .count)) (past r) leg) where
+  -- where the push stops
+  module _ (leg : Leg) (gone : LegStopped rows pushing (h .count) stageAt (passesPush rows (h .count)) (past r) leg) where
     abbrev end : End
     end = linkEnd rows (h .count) (leg .at)
 
@@ -108,24 +108,24 @@ module _ (h : Header) (table : List ℕ) (x : Entry) (at : Place) (r : Rows.Row)
     abbrev p : Walk
     p = ends-push .walk
 
-    goes : GoesOn rows pushing (h .count) (resumed w) p
-    goes width whole g = ends-push .goes-on width whole (passes-first .goes-on width whole g)
+    stays : StaysOnWay rows pushing (h .count) (resumed w) p
+    stays width whole g = ends-push .stays-on-way width whole (passes-first .stays-on-way width whole g)
 
     absent : endsAt k (w .entry .key) (w .stage) ≡ false
     absent = ap (endsAt k (w .entry .key)) (d .ends .0) ∙ ap (λ e. eqb k (e .key)) (d .ends .2) ∙ ne-eqb k key (λ same. d .another (sym same))
 
     pub push-damaged : end ≡ Damage → addOutcome h table (fromCode x) ≡ record { reply = refused h Answers.Damage; table = table }
     push-damaged e =
-        let at-damage : p .stage ≡ AtDamage = subst (EndsSo rows p) e (ends-push .ends) in
-        damage-outcome h table x w fine (d .walked) p goes (ap isOn at-damage) small absent at-damage
+        let at-damage : p .stage ≡ AtDamage = subst (EndsAs rows p) e (ends-push .ends) in
+        damage-outcome h table x w fine (d .walked) p stays (ap isOn at-damage) small absent at-damage
 
     at-link : (end ≡ Damage → ⊥) → p .stage ≡ AtNone
     at-link whole = go end refl (ends-push .ends)
       where
-        off : (r : Rows.Row) → EndsSo rows p (Row r) → p .stage ≡ AtNone
-        off r at-row = absurd (not-at-row h table x w fine (d .walked) p goes (ap isOn (at-row .0)) m (d .ends .0) bits (at-row .0))
+        off : (r : Rows.Row) → EndsAs rows p (Row r) → p .stage ≡ AtNone
+        off r at-row = absurd (not-at-row h table x w fine (d .walked) p stays (ap isOn (at-row .0)) m (d .ends .0) bits (at-row .0))
 
-        go : (e : End) → end ≡ e → EndsSo rows p e → p .stage ≡ AtNone
+        go : (e : End) → end ≡ e → EndsAs rows p e → p .stage ≡ AtNone
         go None is ends = ends
         go (Row r) is ends = off r ends
         go Damage is ends = absurd (whole is)
@@ -133,9 +133,9 @@ module _ (h : Header) (table : List ℕ) (x : Entry) (at : Place) (r : Rows.Row)
     module _ (whole : end ≡ Damage → ⊥) where
       pub push-growable : Growable h table (at .row) (bitsLeft (at .mask)) (endBits leg) (leg .above)
       push-growable =
-          growable h table x w fine (d .walked) p goes (ap isOn (at-link whole)) (at .row) (bitsLeft (at .mask)) leg (d .stands .row) (bits-there at w (d .stands)) (ends-push .on)
+          growable h table x w fine (d .walked) p stays (ap isOn (at-link whole)) (at .row) (bitsLeft (at .mask)) leg (d .stands .row) (bits-there at w (d .stands)) (ends-push .on)
 
       pub push-outcome : addOutcome h table (fromCode x) ≡ grownOutcome h table x (at .row) (bitsLeft (at .mask)) (endBits leg) (leg .above) (endSide leg)
       push-outcome =
-          grown-outcome h table x w fine (d .walked) p goes (ap isOn (at-link whole)) (at .row) (bitsLeft (at .mask)) leg (d .stands .row) (bits-there at w (d .stands)) (ends-push .on) small
+          grown-outcome h table x w fine (d .walked) p stays (ap isOn (at-link whole)) (at .row) (bitsLeft (at .mask)) leg (d .stands .row) (bits-there at w (d .stands)) (ends-push .on) small
           absent (at-link whole)

@@ -1,4 +1,4 @@
--- The key at which a way over a table ends has W bits: a row with another key is damage. So a number of 2^W or more is the end of no way.
+-- The key at which a way over a table ends is less than 2^W: a row with another key is damage. So no way ends at a number of 2^W or more.
 use Prim.Native.Nat.{ℕ, zero, suc, _*_, _+_, _/_, _^_, _≤_}
 use mathlib.Core.Path.{_≡_, refl}
 use mathlib.Core.Bool.{Bool, true, false}
@@ -33,7 +33,7 @@ from-below m path s no-such h = tt
 from-below m path s (such f) h = from-part m (wordIn f) path s h
 
 module _ (rows : ℕ → Row) (f : Rule) (n : ℕ) where
-  pub end-on-path : (m path low i : ℕ) → If-such (OnPath m path) (end-row (way f m (unfolded rows n m path low i)))
+  end-on-path : (m path low i : ℕ) → If-such (OnPath m path) (end-row (way f m (unfolded rows n m path low i)))
   unfolding way
   end-on-path zero path low i = by-row (judged n zero path low i (rows i)) refl
     where

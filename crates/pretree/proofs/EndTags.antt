@@ -1,4 +1,4 @@
--- The tags of how a leg ended, as a `match` tells them: 0 is an empty link, 1 a row, 2 damage.
+-- The tags of `End` in a `match`: 0 is an empty link, 1 a row, 2 damage.
 use Prim.Native.Nat.{ℕ}
 use mathlib.Core.Path.{_≡_}
 use mathlib.Core.List.{[], _∷_}

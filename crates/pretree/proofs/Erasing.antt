@@ -33,34 +33,34 @@ use Rattle.pretree.specs.Table.{capacity, rowAt, withRow, cleared}
 use Rattle.pretree.specs.Unfold.{shown}
 use Rattle.pretree.specs.Reply.{wrong-header, too-wide, refused, answered}
 use Rattle.pretree.specs.Walk.{Walk, Stage, On, AtNone, AtRow, AtDamage}
-use Rattle.pretree.specs.Walk.{isOn, rowsRead, treeAt, to-come, stepAt, remembered, seeking, Goes, Placed, Walked}
+use Rattle.pretree.specs.Walk.{isOn, rowsRead, treeAt, to-come, stepAt, remembered, seeking, Ahead, Placed, OnWay, Walked}
 use Rattle.pretree.specs.Seek.{rowOf, aboveOf, bitsLeft, endAt, placeOf, Sought, SeekEnds}
-use Rattle.pretree.specs.Leg.{judges, rowEnd, EndsSo, Stands, OnLeg, GoesOn, passesDown, stageHere, BegunLeg, LegGone, LegEnds}
+use Rattle.pretree.specs.Leg.{judges, rowEnd, EndsAs, Stands, OnLeg, StaysOnWay, passesDown, stageHere, BegunLeg, LegStopped, LegEnds}
 use Rattle.pretree.specs.Add.{taking, hooking}
 use Rattle.pretree.specs.Del.{secondWay, astray, moving, shrunk, delOutcome}
-use Rattle.pretree.specs.Resume.{isDamage, endsAt, again, resumed, Going}
-use Rattle.pretree.specs.Erased.{RowOfKey, hookOf, hookedAt, SameHook, Hangs, raising, JudgedStretch, JudgedMove, noLink, Within, filled, emptied}
+use Rattle.pretree.specs.Resume.{isDamage, endsAt, again, resumed}
+use Rattle.pretree.specs.Erased.{RowOfKey, hookOf, hookedAt, SameHook, HookInTable, raising, JudgedStretch, JudgedMove, noLink, Within, filled, emptied}
 use Rattle.pretree.proofs.Places.{bits-there}
 use Rattle.pretree.proofs.Unfolding.{is-row}
 use Rattle.pretree.proofs.Walking.{at-none}
-use Rattle.pretree.proofs.Ended.{endPart, Gone, all-gone, rows-gone}
-use Rattle.pretree.proofs.Seeking.{following-is}
-use Rattle.pretree.proofs.Resuming.{resumes, Told, told, rows-used, shown-used}
+use Rattle.pretree.proofs.Ended.{endPart, WayEnd, way-end, way-rows}
+use Rattle.pretree.proofs.SeekTurn.{following-is}
+use Rattle.pretree.proofs.Resuming.{resumes, WholeWayEnd, whole-way-end, rows-used, shown-used}
 use Rattle.pretree.proofs.Sought.{seek-ends, place-stands}
 use Rattle.pretree.proofs.Legs.{down-ends}
 use Rattle.pretree.proofs.Adding.{hooks, there, in-table}
 use Rattle.pretree.proofs.Raising.{Stretch, stretch}
 use Rattle.pretree.proofs.EndKeys.{no-such-end}
 
--- where the end of a walk is linked, from a root with so many bits left
+-- where the end of a walk is linked; at the root `width` bits were left
 abbrev hookAt : Walk → ℕ → Hook
 hookAt w width = record { linked = ltb (w .bits) width; above = w .above; side = w .path % 2 }
 
--- the numbers of its place say so: the side is the last bit of the path
+-- the code's hook is the same: the side is the last bit of the path
 hook-is : (p : Place) (w : Walk) (above width : ℕ) → Stands p w → above ≡ w .above → hookOf p (bitsLeft (p .mask)) width above ≡ hookAt w width
 hook-is p w above width st a = rw (bits-there p w st, st .path, shl-shr (w .path) (w .bits), a)
 
--- the way of a word was sought, and ended so
+-- the way of k was sought in a call that is not refused, and ended as `end` says
 pub record SeekDone (h : Header) (table : List ℕ) (k : ℕ) (s : Seek) (end : End) : Type 0 where
   pub fine : wrong-header h table ≡ false
   pub small : too-wide h k ≡ false
@@ -71,7 +71,7 @@ pub seek-done : (h : Header) (table : List ℕ) (k : ℕ) (s : Seek) (end : End)
 seek-done h table k s end fine small some g is =
     record { fine = fine; small = small; ends = rw is (seek-ends table h k fine small s g some) }
 
--- its walk is where its numbers say
+-- the walk of that seek is at the seek's place
 module _ {h : Header} {table : List ℕ} {k : ℕ} {s : Seek} {end : End} (q : SeekDone h table k s end) where
   stands-there : Stands (placeOf s k) (q .ends .walk)
   stands-there = place-stands table h k (q .fine) (q .small) s end (q .ends)
@@ -82,11 +82,11 @@ module _ {h : Header} {table : List ℕ} {k : ℕ} {s : Seek} {end : End} (q : S
   hook-there : hookOf (placeOf s k) (bitsLeft (s .mask)) (h .width) (aboveOf s) ≡ hookAt (q .ends .walk) (h .width)
   hook-there = hook-is (placeOf s k) (q .ends .walk) (aboveOf s) (h .width) stands-there (q .ends .above)
 
--- so fewer bits are left at the place further down
+-- at a place further down no more bits are left
 fewer : (p q : Place) (w v : Walk) → Stands p w → Stands q v → v .bits ≤ w .bits → bitsLeft (q .mask) ≤ bitsLeft (p .mask)
 fewer p q w v at-w at-v h = rw (bits-there p w at-w, bits-there q v at-v) h
 
--- the stretch from one walk's row to another's, and the same by the numbers of the leg
+-- the stretch from one walk's row to another's; and the stretch from a place to the end of a leg, as the code computes it
 abbrev holeAt : Walk → Walk → ℕ → Hole
 holeAt w s width =
     record { from = w .row; steps = w .bits - s .bits; row = s .row; hook = hookAt s width; rows = width - s .bits + 1 }
@@ -105,19 +105,19 @@ hole-stands : (at : Place) (r : Leg) (w s : Walk) (width : ℕ) → Stands at w 
 hole-stands at r w s width at-w at-s a =
     rw (hook-is (r .at) s (r .above) width at-s a, bits-there (r .at) s at-s, bits-there at w at-w, at-w .row, at-s .row)
 
--- where a way that a walk remembers is linked
+-- the hook at the last step that a walk remembers
 module _ (rows : ℕ → Rows.Row) (n room bits above path : ℕ) (fits : n ≤ room) where
-  hook-told : (b : Bool) (p : Perhaps Step) → p ≡ remembered rows n b bits above (sideOf (path % 2))
+  hook-by : (b : Bool) (p : Perhaps Step) → p ≡ remembered rows n b bits above (sideOf (path % 2))
       → SameHook p (record { linked = b; above = above; side = path % 2 })
-  hook-told b p e = λ i table. rw e (hooks rows n bits above i (sideOf (path % 2)) table b)
+  hook-by b p e = λ i table. rw e (hooks rows n bits above i (sideOf (path % 2)) table b)
 
-  hang-told : (b : Bool) (p : Perhaps Step) → p ≡ remembered rows n b bits above (sideOf (path % 2)) → If-such (λ s. s .at < n) p
-      → Hangs room (record { linked = b; above = above; side = path % 2 })
+  hook-in-table-by : (b : Bool) (p : Perhaps Step) → p ≡ remembered rows n b bits above (sideOf (path % 2)) → If-such (λ s. s .at < n) p
+      → HookInTable room (record { linked = b; above = above; side = path % 2 })
   unfolding stepAt
-  hang-told true p e h = (λ linked. lt-of-lt-of-le (rw e at h) fits, omega arith)
-  hang-told false p e h = (λ linked. absurd (true≢false (sym linked)), omega arith)
+  hook-in-table-by true p e h = (λ linked. lt-of-lt-of-le (rw e at h) fits, omega arith)
+  hook-in-table-by false p e h = (λ linked. absurd (true≢false (sym linked)), omega arith)
 
--- the way of k, as the walk that went it tells
+-- the way of k, as the walk that has gone it tells
 module _ (h : Header) (table : List ℕ) (fine : wrong-header h table ≡ false) (k : ℕ) (w : Walk)
     (gone : Walked (rowAt table) (seeking k k) (h .width) (h .count) (shown h table) w) where
   abbrev rows : ℕ → Rows.Row
@@ -126,8 +126,8 @@ module _ (h : Header) (table : List ℕ) (fine : wrong-header h table ≡ false)
   abbrev whole : Way
   whole = way (following k) (h .width) (shown h table)
 
-  abbrev at-end : Gone rows (seeking k k) (h .width) (h .count) (shown h table) w gone (w .stage)
-  at-end = all-gone rows (seeking k k) (h .width) (h .count) (shown h table) w gone
+  abbrev at-end : WayEnd rows (seeking k k) (h .width) (h .count) (shown h table) w gone (w .stage)
+  at-end = way-end rows (seeking k k) (h .width) (h .count) (shown h table) w gone
 
   abbrev end-part : Stage → Tree
   end-part = endPart rows (seeking k k) (h .width) (h .count) (shown h table) w gone
@@ -149,22 +149,22 @@ module _ (h : Header) (table : List ℕ) (fine : wrong-header h table ≡ false)
   ends-is = rw (following-is k) (there h table (record { key = k; serial = 0 }) w fine gone)
 
   rows-are : Ways.rows whole ≡ rowsRead w (h .width)
-  rows-are = rw (following-is k) (rows-gone rows (seeking k k) (h .width) (h .count) (shown h table) w gone)
+  rows-are = rw (following-is k) (way-rows rows (seeking k k) (h .width) (h .count) (shown h table) w gone)
 
   above-is : above-end whole ≡ remembered rows (w .count) (ltb (w .bits) (h .width)) (w .bits) (w .above) (sideOf (w .path % 2))
   above-is = rw (following-is k) (at-end .above)
 
   hooks-whole : SameHook (above-end whole) (hookAt w (h .width))
-  hooks-whole = hook-told rows (w .count) (capacity table) (w .bits) (w .above) (w .path) room (ltb (w .bits) (h .width)) (above-end whole) above-is
+  hooks-whole = hook-by rows (w .count) (capacity table) (w .bits) (w .above) (w .path) room (ltb (w .bits) (h .width)) (above-end whole) above-is
 
   whole-used : All (λ s. s .at < w .count) (whole .passed)
   whole-used = rw (gone .walking .same-count) (shown-used (following k) h table)
 
-  hangs-whole : Hangs (capacity table) (hookAt w (h .width))
-  hangs-whole =
-      hang-told rows (w .count) (capacity table) (w .bits) (w .above) (w .path) room (ltb (w .bits) (h .width)) (above-end whole) above-is (last-such-one anything whole-used)
+  hook-in-table-whole : HookInTable (capacity table) (hookAt w (h .width))
+  hook-in-table-whole =
+      hook-in-table-by rows (w .count) (capacity table) (w .bits) (w .above) (w .path) room (ltb (w .bits) (h .width)) (above-end whole) above-is (last-such-one anything whole-used)
 
-  -- the walk that ended at k's row goes on from there
+  -- the walk ended at k's row and continues from there
   module _ (at-k : endsAt k (w .entry .key) (w .stage) ≡ true) where
     at-row : w .stage ≡ AtRow
     at-row = go (w .stage) at-k
@@ -184,10 +184,10 @@ module _ (h : Header) (table : List ℕ) (fine : wrong-header h table ≡ false)
     stage-here : again (w .stage) ≡ stageHere (h .count) (w .row)
     stage-here = rw (at-row, lt-ltb (w .row) (h .count) used)
 
-    goes : Goes rows (h .width) (way (seeking k k) (h .width) (shown h table)) w (to-come rows (seeking k k) w AtRow)
-    goes =
-        subst (λ (s : Stage). Goes rows (h .width) (way (seeking k k) (h .width) (shown h table)) w (to-come rows (seeking k k) w s)) at-row
-        (gone .walking .goes)
+    ahead : Ahead rows (h .width) (way (seeking k k) (h .width) (shown h table)) w (to-come rows (seeking k k) w AtRow)
+    ahead =
+        subst (λ (s : Stage). Ahead rows (h .width) (way (seeking k k) (h .width) (shown h table)) w (to-come rows (seeking k k) w s)) at-row
+        (gone .walking .ahead)
 
     -- the stretch, and both ways joined
     abbrev below-way : Way
@@ -197,7 +197,7 @@ module _ (h : Header) (table : List ℕ) (fine : wrong-header h table ≡ false)
     both = joined whole below-way
 
     below-is : below-way ≡ way (down left) (w .bits) (treeAt rows w)
-    below-is = rw (following-is k, ← goes .end, ← goes .bits)
+    below-is = rw (following-is k, ← ahead .end, ← ahead .bits)
 
     abbrev e : Erasing
     e = erasing (h .width) k (shown h table)
@@ -213,35 +213,35 @@ module _ (h : Header) (table : List ℕ) (fine : wrong-header h table ≡ false)
     first-length : length (whole .passed) ≡ h .width - w .bits
     first-length = rw (following-is k) (at-end .number)
 
-    module _ (s : Walk) (went : GoesOn rows (down left) (h .count) (resumed w) s) where
-      -- by the walk's own rule
+    module _ (s : Walk) (went : StaysOnWay rows (down left) (h .count) (resumed w) s) where
+      -- s is the walk that has continued along the stretch
       abbrev sought-way : Way
       sought-way = way (seeking k k) (h .width) (shown h table)
 
       abbrev sought-both : Way
       sought-both = joined sought-way (way (down left) (sought-way .bits) (sought-way .end))
 
-      on-both : Going rows (down left) (h .width) (h .count) both s
+      on-both : OnWay rows (down left) (h .width) (h .count) both s
       on-both =
           rw (following-is k)
           (went (h .width) sought-both
-          (subst (λ (n : ℕ). Going rows (down left) (h .width) n sought-both (resumed w)) (gone .walking .same-count)
+          (subst (λ (n : ℕ). OnWay rows (down left) (h .width) n sought-both (resumed w)) (gone .walking .same-count)
           (resumes rows (seeking k k) (down left) (h .width) (h .count) (shown h table) w gone)))
 
       same-counts : s .count ≡ w .count
       same-counts = on-both .same-count ∙ sym (gone .walking .same-count)
 
       module _ (off : isOn (s .stage) ≡ false) where
-        abbrev all-told : Told rows (down left) (h .width) (h .count) both s off on-both (s .stage)
-        all-told = told rows (down left) (h .width) (h .count) both s off on-both
+        abbrev whole-end : WholeWayEnd rows (down left) (h .width) (h .count) both s off on-both (s .stage)
+        whole-end = whole-way-end rows (down left) (h .width) (h .count) both s off on-both
 
         broken-below : broken (e .rows-read) ≡ isDamage (s .stage)
         unfolding broken
-        broken-below = rw is-erasing (all-told .damage)
+        broken-below = rw is-erasing (whole-end .damage)
 
         both-length : length (whole .passed) + length (below-way .passed) ≡ h .width - s .bits
         unfolding joined
-        both-length = sym (length-append (whole .passed) (below-way .passed)) ∙ all-told .number
+        both-length = sym (length-append (whole .passed) (below-way .passed)) ∙ whole-end .number
 
         bits-fall : s .bits ≤ w .bits
         bits-fall = omega (arith, first-length, both-length, gone .walking .fits, on-both .fits)
@@ -257,7 +257,7 @@ module _ (h : Header) (table : List ℕ) (fine : wrong-header h table ≡ false)
         placed-below = subst (Placed rows s) ends-row (on-both .placed)
 
         end-below : both .end ≡ treeAt rows s
-        end-below = sym (subst (λ (t : Stage). Goes rows (h .width) both s (to-come rows (down left) s t)) ends-row (on-both .goes) .end)
+        end-below = sym (subst (λ (t : Stage). Ahead rows (h .width) both s (to-come rows (down left) s t)) ends-row (on-both .ahead) .end)
 
         hole-number : numberAt (both .end) ≡ s .row
         hole-number =
@@ -266,20 +266,20 @@ module _ (h : Header) (table : List ℕ) (fine : wrong-header h table ≡ false)
         whole-below : isDamaged (way (down left) (w .bits) (treeAt rows w) .end) ≡ false
         unfolding joined
         whole-below =
-            let so : isDamaged (below-way .end) ≡ isDamage (s .stage) = all-told not-on .damage in
+            let so : isDamaged (below-way .end) ≡ isDamage (s .stage) = whole-end not-on .damage in
             rw (← below-is, so, ends-row)
 
         abbrev stretch-is : Stretch rows (w .count) (capacity table) room (w .low) (w .row) (way (down left) (w .bits) (treeAt rows w))
         stretch-is = stretch rows (w .count) (capacity table) room (w .bits) (w .path) (w .low) (w .row) whole-below
 
         above-below : above-end both ≡ remembered rows (w .count) (ltb (s .bits) (h .width)) (s .bits) (s .above) (sideOf (s .path % 2))
-        above-below = all-told not-on .above ∙ rw same-counts
+        above-below = whole-end not-on .above ∙ rw same-counts
 
         rows-below : Ways.rows both ≡ h .width - s .bits + 1
         unfolding Ways.rows
-        rows-below = rw (all-told not-on .number, all-told not-on .end-rows, ends-row)
+        rows-below = rw (whole-end not-on .number, whole-end not-on .end-rows, ends-row)
 
-        -- so all that was judged of the stretch is so, and is in the table
+        -- so what the code judged about the stretch holds, and all rows that it will write are in the table
         judged-so : JudgedStretch e table (holeAt w s (h .width))
         unfolding joined
         judged-so =
@@ -291,29 +291,29 @@ module _ (h : Header) (table : List ℕ) (fine : wrong-header h table ≡ false)
               row = rw is-erasing hole-number;
               hook =
                   rw is-erasing
-                  (hook-told rows (w .count) (capacity table) (s .bits) (s .above) (s .path) room (ltb (s .bits) (h .width)) (above-end both) above-below);
+                  (hook-by rows (w .count) (capacity table) (s .bits) (s .above) (s .path) room (ltb (s .bits) (h .width)) (above-end both) above-below);
             }
 
         within-so : Within table (holeAt w s (h .width))
         within-so =
             record {
               rises = rw (← stretch-length not-on) (stretch-is .rises);
-              hangs =
-                  hang-told rows (w .count) (capacity table) (s .bits) (s .above) (s .path) room (ltb (s .bits) (h .width)) (above-end both) above-below
+              hook-in-table =
+                  hook-in-table-by rows (w .count) (capacity table) (s .bits) (s .above) (s .path) room (ltb (s .bits) (h .width)) (above-end both) above-below
                   (last-such-one anything both-used);
               used = lt-of-lt-of-le (rw same-counts at (placed-below .0)) room;
             }
 
 -- a leg that ended at a row, and not at damage
-row-there : (rows : ℕ → Rows.Row) (count : ℕ) (p : Place) (w : Walk) → EndsSo rows w (rowEnd rows count p) → (rowEnd rows count p ≡ Ends.Damage → ⊥) → w .stage ≡ AtRow
+row-there : (rows : ℕ → Rows.Row) (count : ℕ) (p : Place) (w : Walk) → EndsAs rows w (rowEnd rows count p) → (rowEnd rows count p ≡ Ends.Damage → ⊥) → w .stage ≡ AtRow
 row-there rows count p w = go (ltb (p .row) count && judges p (rows (p .row)))
   where
-    go : (b : Bool) → EndsSo rows w (if b then Ends.Row (rows (p .row)) else Ends.Damage)
+    go : (b : Bool) → EndsAs rows w (if b then Ends.Row (rows (p .row)) else Ends.Damage)
         → ((if b then Ends.Row (rows (p .row)) else Ends.Damage) ≡ Ends.Damage → ⊥) → w .stage ≡ AtRow
     go true so whole = so .0
     go false so whole = absurd (whole refl)
 
--- the leg down from k's row, by its numbers
+-- the leg down from k's row
 module _ {h : Header} {table : List ℕ} {k : ℕ} {at : Place} {above : ℕ} (fine : wrong-header h table ≡ false) (found : RowOfKey h table k at above) where
   abbrev start : Leg
   start = record { at = at; above = above }
@@ -337,20 +337,20 @@ module _ {h : Header} {table : List ℕ} {k : ℕ} {at : Place} {above : ℕ} (f
   pub begun : BegunLeg (h .count) stageHere start
   begun = record { walk = resumed (found .walk); on = on-leg; stage = wants-row }
 
-  module _ {r : Leg} (g : LegGone (rowAt table) (down left) (h .count) stageHere (passesDown (rowAt table) (h .count)) start r) where
+  module _ {r : Leg} (g : LegStopped (rowAt table) (down left) (h .count) stageHere (passesDown (rowAt table) (h .count)) start r) where
     leg-ends : LegEnds (rowAt table) (down left) (h .count) (resumed (found .walk)) r (rowEnd (rowAt table) (h .count) (r .at))
     leg-ends = down-ends (rowAt table) (h .count) 0 start r g (resumed (found .walk)) on-leg wants-row
 
     pub few-bits : bitsLeft (r .at .mask) ≤ h .width
     few-bits =
         le-trans (le-of-eq (bits-there (r .at) (leg-ends .walk) (leg-ends .on .stands)))
-        (on-both h table fine k (found .walk) (found .walked) (found .there) (leg-ends .walk) (leg-ends .goes-on) .fits)
+        (on-both h table fine k (found .walk) (found .walked) (found .there) (leg-ends .walk) (leg-ends .stays-on-way) .fits)
 
     pub damaged-below : rowEnd (rowAt table) (h .count) (r .at) ≡ Ends.Damage → broken (erasing (h .width) k (shown h table) .rows-read) ≡ true
     damaged-below d =
-        let so : leg-ends .walk .stage ≡ AtDamage = subst (EndsSo (rowAt table) (leg-ends .walk)) d (leg-ends .ends) in
+        let so : leg-ends .walk .stage ≡ AtDamage = subst (EndsAs (rowAt table) (leg-ends .walk)) d (leg-ends .ends) in
         let off : isOn (leg-ends .walk .stage) ≡ false = ap isOn so in
-        broken-below h table fine k (found .walk) (found .walked) (found .there) (leg-ends .walk) (leg-ends .goes-on) off ∙ ap isDamage so
+        broken-below h table fine k (found .walk) (found .walked) (found .there) (leg-ends .walk) (leg-ends .stays-on-way) off ∙ ap isDamage so
 
     module _ (there : rowEnd (rowAt table) (h .count) (r .at) ≡ Ends.Damage → ⊥) where
       row-end : leg-ends .walk .stage ≡ AtRow
@@ -362,25 +362,25 @@ module _ {h : Header} {table : List ℕ} {k : ℕ} {at : Place} {above : ℕ} (f
       pub judged-stretch : JudgedStretch (erasing (h .width) k (shown h table)) table (holeOf at r (h .width))
       judged-stretch =
           subst (JudgedStretch (erasing (h .width) k (shown h table)) table) (sym same-hole)
-          (judged-so h table fine k (found .walk) (found .walked) (found .there) (leg-ends .walk) (leg-ends .goes-on) row-end)
+          (judged-so h table fine k (found .walk) (found .walked) (found .there) (leg-ends .walk) (leg-ends .stays-on-way) row-end)
 
       pub within : Within table (holeOf at r (h .width))
       within =
           subst (Within table) (sym same-hole)
-          (within-so h table fine k (found .walk) (found .walked) (found .there) (leg-ends .walk) (leg-ends .goes-on) row-end)
+          (within-so h table fine k (found .walk) (found .walked) (found .there) (leg-ends .walk) (leg-ends .stays-on-way) row-end)
 
       pub falls : bitsLeft (r .at .mask) ≤ bitsLeft (at .mask)
       falls =
           fewer at (r .at) (found .walk) (leg-ends .walk) (found .stands) (leg-ends .on .stands)
-          (bits-fall h table fine k (found .walk) (found .walked) (found .there) (leg-ends .walk) (leg-ends .goes-on) (ap isOn row-end))
+          (bits-fall h table fine k (found .walk) (found .walked) (found .there) (leg-ends .walk) (leg-ends .stays-on-way) (ap isOn row-end))
 
--- a way that ended so ended at the last row
+-- whether a way that ended at row i, as the `End` says, ended at the last row
 abbrev pub ends-last : ℕ → ℕ → End → Bool
 ends-last i last Ends.None = false
 ends-last i last (Ends.Row r) = eqb i last
 ends-last i last Ends.Damage = false
 
--- as the arms of a `match` tell it
+-- in each arm of a `match`
 pub is-last : (i last : ℕ) (e : End) (r : Rows.Row) → e ≡ Ends.Row r → eqb i last ≡ ends-last i last e
 is-last i last e r d = rw d
 
@@ -389,16 +389,16 @@ no-last i last Ends.None other = refl
 no-last i last (Ends.Row r) other = absurd (other r refl)
 no-last i last Ends.Damage other = refl
 
--- the second test holds only where the first does: both hold where the second does
+-- if the second test implies the first, the second alone decides whether both hold
 only-second : (a b : Bool) → (b ≡ true → a ≡ true) → not (a && b) ≡ not b
 only-second true b own = refl
 only-second false true own = absurd (true≢false (sym (own refl)))
 only-second false false own = refl
 
-pub no-link-hangs : (n : ℕ) (needed astray : Bool) → Hangs n (noLink needed astray .hook)
-no-link-hangs n needed astray = (λ never. absurd (true≢false (sym never)), omega arith)
+pub no-link-in-table : (n : ℕ) (needed astray : Bool) → HookInTable n (noLink needed astray .hook)
+no-link-in-table n needed astray = (λ never. absurd (true≢false (sym never)), omega arith)
 
--- the way of the last row's key, and whether it goes astray
+-- the way of the last row's key, and whether it is astray
 module _ (h : Header) (table : List ℕ) (fine : wrong-header h table ≡ false) where
   abbrev last : ℕ
   last = pred (h .count)
@@ -410,7 +410,7 @@ module _ (h : Header) (table : List ℕ) (fine : wrong-header h table ≡ false)
   nothing-moves hole e =
       record { needed = rw (eq-eqb hole last e); astray = refl; rows = λ good. refl; hook = λ good never. absurd (true≢false (sym never)) }
 
-  -- a key that is no word goes astray
+  -- the way of a key that is no word is astray
   wide-strays : too-wide h last-key ≡ true → (broken (secondWay h table) || astray h table (secondWay h table)) ≡ true
   unfolding secondWay astray
   wide-strays wide = rw (no-such-end (following last-key) h table last-key wide) (or-true (broken (secondWay h table)))
@@ -439,8 +439,8 @@ module _ (h : Header) (table : List ℕ) (fine : wrong-header h table ≡ false)
         by-stage AtRow = refl
         by-stage AtDamage = refl
 
-    -- where it ended at the last row, the key there is its own
-    astray-by : (e : End) → EndsSo (rowAt table) w e → not (endsAt last-key (w .entry .key) (w .stage) && eqb (w .row) last) ≡ not (ends-last (w .row) last e)
+    -- if the way ended at the last row, the key there is the last row's key
+    astray-by : (e : End) → EndsAs (rowAt table) w e → not (endsAt last-key (w .entry .key) (w .stage) && eqb (w .row) last) ≡ not (ends-last (w .row) last e)
     astray-by Ends.None so = rw so
     astray-by Ends.Damage so = rw so
     astray-by (Ends.Row r) so = rw (so .0) (only-second (eqb last-key (w .entry .key)) (eqb (w .row) last) own)
@@ -448,12 +448,12 @@ module _ (h : Header) (table : List ℕ) (fine : wrong-header h table ≡ false)
         own : eqb (w .row) last ≡ true → eqb last-key (w .entry .key) ≡ true
         own same = eq-eqb last-key (w .entry .key) (rw (so .2, so .1, eqb-true (w .row) last same))
 
-    at-last : (e : End) → EndsSo (rowAt table) w e → not (ends-last (w .row) last e) ≡ false → w .stage ≡ AtRow
+    at-last : (e : End) → EndsAs (rowAt table) w e → not (ends-last (w .row) last e) ≡ false → w .stage ≡ AtRow
     at-last Ends.None so good = absurd (true≢false good)
     at-last Ends.Damage so good = absurd (true≢false good)
     at-last (Ends.Row r) so good = so .0
 
-    last-moves : (e : End) → EndsSo (rowAt table) w e → (ends : Bool) → ends ≡ ends-last (w .row) last e → (hole : ℕ) → (hole ≡ last → ⊥)
+    last-moves : (e : End) → EndsAs (rowAt table) w e → (ends : Bool) → ends ≡ ends-last (w .row) last e → (hole : ℕ) → (hole ≡ last → ⊥)
         → JudgedMove h table hole
         (record { needed = true; astray = not ends; hook = hookAt w (h .width); rows = h .width - w .bits + 1 })
     unfolding secondWay
@@ -465,7 +465,7 @@ module _ (h : Header) (table : List ℕ) (fine : wrong-header h table ≡ false)
           hook = λ good needed. hooks-whole h table fine last-key w gone;
         }
 
--- the same by the numbers of the seek of the last row's key x
+-- the move of the last row, from the seek of its key x
 module _ {h : Header} {table : List ℕ} {x : ℕ} {s : Seek} {end : End} (q : SeekDone h table x s end) (own : x ≡ rowAt table (pred (h .count)) .entry .key) where
   abbrev own-key : ℕ
   own-key = rowAt table (pred (h .count)) .entry .key
@@ -488,8 +488,8 @@ module _ {h : Header} {table : List ℕ} {x : ℕ} {s : Seek} {end : End} (q : S
         let same-last = ap (λ (n : ℕ). ends-last (q .ends .walk .row) n end) (sub-one (h .count)) in
         rw (its-hook, its-bits) (last-moves h table (q .fine) (q .ends .walk) last-walked end (q .ends .ends) ends (so ∙ same-row ∙ same-last) hole apart)
 
-    pub seek-hangs : Hangs (capacity table) k
-    seek-hangs = subst (Hangs (capacity table)) (sym its-hook) (hangs-whole h table (q .fine) own-key (q .ends .walk) last-walked)
+    pub seek-hook-in-table : HookInTable (capacity table) k
+    seek-hook-in-table = subst (HookInTable (capacity table)) (sym its-hook) (hook-in-table-whole h table (q .fine) own-key (q .ends .walk) last-walked)
 
 -- one write after the other, each on what the one before it left
 pub writes-empty : (last : ℕ) (hole : Hole) (m : Move) (table : List ℕ) {raised unlinked moved after : List ℕ}
@@ -560,10 +560,10 @@ module _ (h : Header) (table : List ℕ) (k : ℕ) (fine : wrong-header h table 
       unfolding delOutcome
       on-done = rw (moves-is, left-is, fine, small, e .whole, e .present, ← v .astray, good, e .rows, ← v .rows good)
 
--- where the way of k ended, by the numbers of the seek
+-- the outcome, by how the seek of k ended
 module _ {h : Header} {table : List ℕ} {k : ℕ} {s : Seek} {end : End} (q : SeekDone h table k s end) where
-  so-ended : (e : End) → end ≡ e → EndsSo (rowAt table) (q .ends .walk) e
-  so-ended e is = subst (EndsSo (rowAt table) (q .ends .walk)) is (q .ends .ends)
+  so-ended : (e : End) → end ≡ e → EndsAs (rowAt table) (q .ends .walk) e
+  so-ended e is = subst (EndsAs (rowAt table) (q .ends .walk)) is (q .ends .ends)
 
   pub seek-damage : end ≡ Ends.Damage → delOutcome h table k ≡ record { reply = refused h Damage; table = table }
   seek-damage is =
@@ -577,7 +577,7 @@ module _ {h : Header} {table : List ℕ} {k : ℕ} {s : Seek} {end : End} (q : S
       rw (← read) (not-there h table k (q .fine) (q .small) (q .ends .walk) (q .ends .walked) (rw so) (rw so))
 
   module _ {r : Rows.Row} (is : end ≡ Ends.Row r) where
-    so-row : EndsSo (rowAt table) (q .ends .walk) (Ends.Row r)
+    so-row : EndsAs (rowAt table) (q .ends .walk) (Ends.Row r)
     so-row = so-ended (Ends.Row r) is
 
     pub seek-other : (r .entry .key ≡ k → ⊥)

@@ -1,4 +1,4 @@
--- What a call that looks for a word answers where its way ended, by the end that the code found there.
+-- The replies of `has`, `first` and `last`, from the end of the way that the code found.
 use Prim.Native.Nat.{ℕ, zero, suc, _+_, _-_, _≤_, _<_}
 use mathlib.Core.Path.{_≡_, refl, sym, ap, _∙_}
 use mathlib.Core.Bool.{Bool, true, false, _||_, or-false}
@@ -28,31 +28,30 @@ use Rattle.pretree.specs.Unfold.{judged, unfolded, shown}
 use Rattle.pretree.specs.Reply.{wrong-header, too-wide, refused, answered}
 use Rattle.pretree.specs.Find.{word, read-reply, saying, serial, hasReply}
 use Rattle.pretree.specs.Walk.{Walk, On, AtDamage, isOn, rowsRead, started, startedAt, ended, holds, treeAt, to-come, seeking, Placed, Walking, Walked}
-use Rattle.pretree.specs.Resume.{Going}
 use Rattle.pretree.specs.Seek.{bitsLeft, endAt, Sought, SeekEnds}
-use Rattle.pretree.specs.Leg.{judges, rowEnd, EndsSo, OnLeg, BegunLeg, LegGone, LegEnds, passesDown, stageHere}
+use Rattle.pretree.specs.Leg.{judges, rowEnd, EndsAs, OnLeg, BegunLeg, LegStopped, LegEnds, passesDown, stageHere}
 use Rattle.pretree.specs.Found.{foundBy, wordBy, then-by, GreatestFrom, greatestBy}
 use Rattle.pretree.proofs.Unfolding.{is-damaged, is-row}
 use Rattle.pretree.proofs.Places.{bits-there}
 use Rattle.pretree.proofs.Walking.{at-none, at-damage, begins}
-use Rattle.pretree.proofs.Ended.{endsIn, all-gone, rows-gone}
-use Rattle.pretree.proofs.Seeking.{following-is}
+use Rattle.pretree.proofs.Ended.{endsIn, way-end, way-rows}
+use Rattle.pretree.proofs.SeekTurn.{following-is}
 use Rattle.pretree.proofs.Sought as Seeks
 use Rattle.pretree.proofs.Legs.{down-ends}
 
--- a walk that ended so has ended
-pub has-ended : (rows : ℕ → Rows.Row) (w : Walk) (e : End) → EndsSo rows w e → isOn (w .stage) ≡ false
+-- a walk that ended as an `End` says has ended
+has-ended : (rows : ℕ → Rows.Row) (w : Walk) (e : End) → EndsAs rows w e → isOn (w .stage) ≡ false
 has-ended rows w Ends.the-variants.None at = rw at
 has-ended rows w (Ends.the-variants.Row r) so = rw (so .0)
 has-ended rows w Ends.the-variants.Damage at = rw at
 
--- the word at which a second way ended, after n rows
+-- the reply with the word at which a way ended; n rows were read before it
 module _ (h : Header) (n : ℕ) (rows : ℕ → Rows.Row) (f : Rule) (m count : ℕ) (tree : Tree) (w : Walk) (gone : Walked rows f m count tree w) where
-  pub word-ends : (e : End) → EndsSo rows w e → then-by h n (way f m tree) ≡ wordBy h (n + (m - w .bits)) e
+  word-ends : (e : End) → EndsAs rows w e → then-by h n (way f m tree) ≡ wordBy h (n + (m - w .bits)) e
   unfolding broken
-  word-ends e so = rw (rows-gone _ _ _ _ _ w gone, all-gone _ _ _ _ _ w gone .end) (by-end e so)
+  word-ends e so = rw (way-rows _ _ _ _ _ w gone, way-end _ _ _ _ _ w gone .end) (by-end e so)
     where
-      by-end : (e : End) → EndsSo rows w e
+      by-end : (e : End) → EndsAs rows w e
           → (let t : Tree = endsIn rows w (w .stage) in
           if isDamaged t then refused h Damage else answered h (saying word (root-row (way f m tree .bits) t)) (n + rowsRead w m))
           ≡ wordBy h (n + (m - w .bits)) e
@@ -60,13 +59,13 @@ module _ (h : Header) (n : ℕ) (rows : ℕ → Rows.Row) (f : Rule) (m count : 
       by-end (Ends.the-variants.Row r) so = rw (so .0, so .2) (ap (answered h (Word (r .entry .key))) (omega arith))
       by-end Ends.the-variants.Damage at = rw at
 
--- whether the word is there, where its way ended so
+-- the reply of `has`, by how the way of k ended
 module _ (h : Header) (table : List ℕ) (k : ℕ) (w : Walk) (fine : wrong-header h table ≡ false) (small : too-wide h k ≡ false)
     (gone : Walked (rowAt table) (seeking k k) (h .width) (h .count) (shown h table) w) where
-  pub found-ends : (e : End) → EndsSo (rowAt table) w e → hasReply h table k ≡ foundBy h k (h .width - w .bits) e
+  found-ends : (e : End) → EndsAs (rowAt table) w e → hasReply h table k ≡ foundBy h k (h .width - w .bits) e
   unfolding hasReply has brokenIn broken rowsOf
   found-ends e so =
-      rw (fine, small, following-is k, rows-gone _ _ _ _ _ w gone, add-zero, all-gone _ _ _ _ _ w gone .end) (by-end e so)
+      rw (fine, small, following-is k, way-rows _ _ _ _ _ w gone, add-zero, way-end _ _ _ _ _ w gone .end) (by-end e so)
     where
       by-key : (b : Bool) (n : ℕ)
           → answered h (saying serial (if b then such (record { entry = w .entry; bits = way (seeking k k) (h .width) (shown h table) .bits }) else no-such)) n
@@ -74,7 +73,7 @@ module _ (h : Header) (table : List ℕ) (k : ℕ) (w : Walk) (fine : wrong-head
       by-key true n = refl
       by-key false n = refl
 
-      by-end : (e : End) → EndsSo (rowAt table) w e
+      by-end : (e : End) → EndsAs (rowAt table) w e
           → (let t : Tree = endsIn (rowAt table) w (w .stage) in
           if isDamaged t || false then refused h Damage
           else answered h (saying serial (only-if (λ f. eqb k (wordIn f)) (root-row (way (seeking k k) (h .width) (shown h table) .bits) t))) (rowsRead w (h .width)))
@@ -83,12 +82,12 @@ module _ (h : Header) (table : List ℕ) (k : ℕ) (w : Walk) (fine : wrong-head
       by-end (Ends.the-variants.Row r) so = rw (so .0, ← ap (λ e. e .key) (so .2), ← ap (λ e. e .serial) (so .2)) (by-key (eqb k (w .entry .key)) (h .width - w .bits + 1))
       by-end Ends.the-variants.Damage at = rw at
 
--- with no word every way is empty
+-- in an empty set every way is empty
 pub empty-way : (h : Header) (table : List ℕ) (f : Rule) → h .count ≡ 0 → way f (h .width) (shown h table) ≡ ending (h .width) none
 unfolding shown
 empty-way h table f empty = rw (eq-eqb (h .count) 0 empty) (at-none f (h .width))
 
--- `has`, where its seek stopped, and with no word
+-- the reply of `has` where its seek stopped, and in an empty set
 pub found-sought : (h : Header) (table : List ℕ) (k : ℕ) → wrong-header h table ≡ false → too-wide h k ≡ false → (s : Seek)
     → Sought (rowAt table) h (shown h table) k s → 0 < h .count
     → foundBy h k (h .width - bitsLeft (s .mask)) (endAt (rowAt table) (h .count) k s) ≡ hasReply h table k
@@ -102,9 +101,9 @@ pub none-found : (h : Header) (table : List ℕ) (k : ℕ) → wrong-header h ta
 unfolding hasReply has brokenIn broken rowsOf Ways.rows
 none-found h table k fine small empty = rw (fine, small, empty-way h table (Ways.following k) empty)
 
--- `first` and `last`: the word at which one way from the root ends
+-- `first` and `last` answer the word at which one way from the root ends
 module _ (h : Header) (table : List ℕ) (f : Rule) where
-  abbrev pub rootReply : Reply
+  abbrev rootReply : Reply
   rootReply = read-reply h table false word (to-its-end [] (way f (h .width) (shown h table)))
 
   pub root-refused : wrong-header h table ≡ true → refused h WrongHeader ≡ rootReply
@@ -124,7 +123,7 @@ module _ (h : Header) (table : List ℕ) (f : Rule) where
             ≡ (if broken v || false then refused h Damage else answered h (saying word (end-row v)) (Ways.rows v + 0))
         go v = rw (or-false, add-zero, zero-add)
 
--- a way that stays ends at once
+-- a way by the rule `staying` ends at once
 pub stays : (m : ℕ) (t : Tree) → way staying m t ≡ ending m t
 unfolding way staying
 stays zero t = refl
@@ -132,7 +131,7 @@ stays (suc m) none = refl
 stays (suc m) damaged = refl
 stays (suc m) (row i e l r) = refl
 
--- a row that is read by itself, if the numbers of its place judge it as the definition does
+-- if place and definition judge a row alike, what the code finds at that one row gives the reply
 module _ (h : Header) (n : ℕ) (rows : ℕ → Rows.Row) (count m path low : ℕ) (p : Place)
     (alike : judges p (rows (p .row)) ≡ holds (startedAt count (p .row) m path low) (rows (p .row))) where
   pub row-read : then-by h n (way staying m (unfolded rows count m path low (p .row))) ≡ wordBy h n (rowEnd rows count p)
@@ -153,7 +152,7 @@ module _ (h : Header) (table : List ℕ) (p : Place) (g : GreatestFrom h p) wher
   abbrev w : Walk
   w = g .walk
 
-  -- a walk there that remembers nothing
+  -- a walk that begins there and remembers nothing
   abbrev fresh : Walk
   fresh = ended (startedAt (h .count) (w .row) (w .bits) (w .path) (w .low)) (stageHere (h .count) (w .row)) no-entry
 
@@ -190,7 +189,7 @@ module _ (h : Header) (table : List ℕ) (p : Place) (g : GreatestFrom h p) wher
       placed true used = ltb-true (w .row) (h .count) used
       placed false past = tt
 
-  module _ (r : Leg) (gone : LegGone rows (down right) (h .count) stageHere (passesDown rows (h .count)) start r) where
+  module _ (r : Leg) (gone : LegStopped rows (down right) (h .count) stageHere (passesDown rows (h .count)) start r) where
     ends : LegEnds rows (down right) (h .count) fresh r (rowEnd rows (h .count) (r .at))
     ends = down-ends rows (h .count) 1 start r gone fresh on-leg refl
 
@@ -200,32 +199,19 @@ module _ (h : Header) (table : List ℕ) (p : Place) (g : GreatestFrom h p) wher
     abbrev v : Walk
     v = ends .walk
 
-    going : Going rows (down right) (w .bits) (h .count) whole v
-    going =
-        let k = walking (down right) in
-        ends .goes-on (w .bits) whole
-        (record { goes = k .goes; placed = k .placed; memory = k .memory; fits = k .fits; same-count = k .same-count })
+    walks-down : Walking rows (down right) (w .bits) (h .count) (treeAt rows fresh) v
+    walks-down = ends .stays-on-way (w .bits) whole (walking (down right))
 
     went : Walked rows (down right) (w .bits) (h .count) (treeAt rows fresh) v
-    went =
-        record {
-          walking = record {
-            goes = going .goes;
-            placed = going .placed;
-            memory = going .memory;
-            fits = going .fits;
-            same-count = going .same-count;
-          };
-          ended = has-ended rows v (rowEnd rows (h .count) (r .at)) (ends .ends);
-        }
+    went = record { walking = walks-down; ended = has-ended rows v (rowEnd rows (h .count) (r .at)) (ends .ends) }
 
     pub fewer-bits : bitsLeft (r .at .mask) ≤ bitsLeft (p .mask)
-    fewer-bits = rw (bits-there p w (g .stands), bits-there (r .at) v (ends .on .stands)) (going .fits)
+    fewer-bits = rw (bits-there p w (g .stands), bits-there (r .at) v (ends .on .stands)) (walks-down .fits)
 
     pub greatest-is : (n : ℕ)
         → wordBy h (n + bitsLeft (p .mask) - bitsLeft (r .at .mask)) (rowEnd rows (h .count) (r .at)) ≡ greatestBy h rows n w
     greatest-is n =
         rw (bits-there p w (g .stands), bits-there (r .at) v (ends .on .stands))
-        (ap (λ (m : ℕ). wordBy h m (rowEnd rows (h .count) (r .at))) (omega (arith, going .fits))
+        (ap (λ (m : ℕ). wordBy h m (rowEnd rows (h .count) (r .at))) (omega (arith, walks-down .fits))
         ∙ sym (word-ends h n rows (down right) (w .bits) (h .count) (treeAt rows fresh) v went (rowEnd rows (h .count) (r .at)) (ends .ends))
         ∙ ap (λ (count : ℕ). then-by h n (way (down right) (w .bits) (unfolded rows count (w .bits) (w .path) (w .low) (w .row)))) (sym (g .same-count)))

@@ -1,4 +1,4 @@
--- A leg goes with a walk by its rule: it passes a row as the walk does, and where it stops the walk ends.
+-- A walk goes with a leg, by the leg's rule: the walk passes a row if the leg does, and ends where the leg stops.
 use Prim.Native.Nat.{ℕ, zero, suc, pred, _+_, _-_, _/_, _^_, _<_}
 use mathlib.Core.Path.{_≡_, refl, sym, ap, _∙_, subst}
 use mathlib.Core.Bool.{Bool, true, false, not, _&&_, _||_, true≢false}
@@ -18,28 +18,28 @@ use Rattle.pretree.specs.declared.leg.Place.{Place}
 use Rattle.pretree.specs.declared.leg.Leg.{Leg}
 use Rattle.pretree.specs.Table.{entryOf, link}
 use Rattle.pretree.specs.Walk.{Walk, Stage, On, AtRow, AtDamage, isOn, holds, ended, remembering, passed, turned, stageAt, met, below, downTurn}
-use Rattle.pretree.specs.Leg.{judges, belowPlace, rowEnd, linkEnd, EndsSo, Stands, OnLeg, GoesOn, passesDown, firstSide, passesPush, ownSide, stageHere, BegunLeg, LegWalk, LegGone, LegEnds}
+use Rattle.pretree.specs.Leg.{judges, belowPlace, rowEnd, linkEnd, EndsAs, Stands, OnLeg, StaysOnWay, passesDown, firstSide, passesPush, ownSide, stageHere, BegunLeg, LegWalk, LegStopped, LegEnds}
 use Rattle.pretree.proofs.Between.{turns-so, side-of-bit}
-use Rattle.pretree.proofs.Places.{judges-so, below-stands, inner}
-use Rattle.pretree.proofs.Resuming.{keeps-on}
-use Rattle.pretree.proofs.Falling.{down-says}
+use Rattle.pretree.proofs.Places.{judges-alike, below-stands, inner}
+use Rattle.pretree.proofs.Walking.{keeps}
+use Rattle.pretree.proofs.DownTurn.{down-says}
 
--- whatever walk was where the leg l was, one has gone on from it to where the leg r is
+-- every walk that was where the leg l was has continued to where the leg r is
 abbrev pub Follows : (ℕ → Rows.Row) → Rule → ℕ → (ℕ → ℕ → Stage) → Leg → Leg → Type 0
 Follows rows f count stageOf l r = (w : Walk) → OnLeg count l w → w .stage ≡ stageOf count (w .row) → LegWalk rows f count stageOf w r
 
 module _ (rows : ℕ → Rows.Row) (f : Rule) (count : ℕ) (stageOf : ℕ → ℕ → Stage) where
   -- a leg that has not moved
   pub follows-itself : (l : Leg) → Follows rows f count stageOf l l
-  follows-itself l w on stage = record { walk = w; on = on; goes-on = λ width whole g. g; stage = stage }
+  follows-itself l w on stage = record { walk = w; on = on; stays-on-way = λ width whole g. g; stage = stage }
 
   pub follows-further : (l r s : Leg) → Follows rows f count stageOf l r → Follows rows f count stageOf r s → Follows rows f count stageOf l s
   follows-further l r s first next w on stage =
       let v : LegWalk rows f count stageOf w r = first w on stage in
       let u : LegWalk rows f count stageOf (v .walk) s = next (v .walk) (v .on) (v .stage) in
-      record { walk = u .walk; on = u .on; goes-on = λ width whole g. u .goes-on width whole (v .goes-on width whole g); stage = u .stage }
+      record { walk = u .walk; on = u .on; stays-on-way = λ width whole g. u .stays-on-way width whole (v .stays-on-way width whole g); stage = u .stage }
 
--- a leg that has gone on from one that might begin has room for the words below it
+-- a leg that has continued from one that may begin: the last word with the bits of its path has at most 32 bits
 pub has-room : (rows : ℕ → Rows.Row) (f : Rule) (count : ℕ) (stageOf : ℕ → ℕ → Stage) (l r : Leg) → BegunLeg count stageOf l → Follows rows f count stageOf l r
     → r .at .path + r .at .mask < 2 ^ 32
 has-room rows f count stageOf l r b follows = follows (b .walk) (b .on) (b .stage) .on .stands .room
@@ -48,13 +48,13 @@ has-room rows f count stageOf l r b follows = follows (b .walk) (b .on) (b .stag
 abbrev pub legPast : Leg → Rows.Row → Side → Leg
 legPast l r s = record { at = belowPlace (l .at) r s; above = l .at .row }
 
--- a row that a leg passes is in use and no damage, and bits are left there
+-- a row that a leg passes is in use and undamaged, and bits are left there
 pub record Passing (rows : ℕ → Rows.Row) (count : ℕ) (p : Place) : Type 0 where
   pub used : p .row < count
   pub judged : judges p (rows (p .row)) ≡ true
   pub bits-left : 0 < p .mask
 
--- so the mask below is less
+-- so the mask below is smaller
 pub halves : (rows : ℕ → Rows.Row) (count : ℕ) (p : Place) → Passing rows count p → p .mask / 2 < p .mask
 halves rows count p passing = omega (arith, passing .bits-left)
 
@@ -80,24 +80,24 @@ module _ (w : Walk) (r : Rows.Row) where
   unfolding met
   turns-there t m fine bits = rw (fine, bits, ne-eqb (suc m) 0 (suc-ne-zero m))
 
--- a leg at a row that its walk wants
+-- a leg at the next row of its walk
 module _ (rows : ℕ → Rows.Row) (f : Rule) (count : ℕ) (l : Leg) (w : Walk) (on : OnLeg count l w) (wants : w .stage ≡ On) where
   abbrev here : Rows.Row
   here = rows (l .at .row)
 
-  -- what the rule says there
+  -- the rule says the turn t there
   abbrev Says : Turn → Type 0
   Says t =
       (m : ℕ) → w .bits ≡ suc m
       → f m (entryOf here) (below rows count (suc m) (l .at .row) left) (below rows count (suc m) (l .at .row) right) ≡ t
 
-  meets-row : (t : Turn) → Says t → GoesOn rows f count w (met w here t)
+  meets-row : (t : Turn) → Says t → StaysOnWay rows f count w (met w here t)
   meets-row t says =
-      subst (λ (i : ℕ). GoesOn rows f count w (met w (rows i) t)) (sym (on .stands .row))
-      (λ width whole g. keeps-on rows f width count whole w (ap isOn wants) g t (λ m e. rw (on .same-count, ← on .stands .row) (says m e)))
+      subst (λ (i : ℕ). StaysOnWay rows f count w (met w (rows i) t)) (sym (on .stands .row))
+      (λ width whole g. keeps rows f width count whole w (ap isOn wants) g t (λ m e. rw (← on .stands .row) (says m e)))
 
   ended-with : (t : Turn) (stage : Stage) (e : End) → Says t → met w here t ≡ ended w stage (entryOf here)
-      → EndsSo rows (ended w stage (entryOf here)) e → LegEnds rows f count w l e
+      → EndsAs rows (ended w stage (entryOf here)) e → LegEnds rows f count w l e
   ended-with t stage e says ends so =
       record {
         walk = ended w stage (entryOf here);
@@ -115,11 +115,11 @@ module _ (rows : ℕ → Rows.Row) (f : Rule) (count : ℕ) (l : Leg) (w : Walk)
               above = on .above;
               same-count = on .same-count;
             };
-        goes-on = rw ends at (meets-row t says);
+        stays-on-way = rw ends at (meets-row t says);
         ends = so;
       }
 
-  -- where the row is passed, the walk goes past it with the leg
+  -- if the leg passes the row, the walk does
   module _ (m : ℕ) (bits : w .bits ≡ suc m) (fine : holds w here ≡ true) (s : Side) (says : Says (to s)) where
     past-link : (v : Walk) (i : Side) → v .bits ≡ w .bits → v .path ≡ w .path → v .row ≡ w .row → v .count ≡ w .count
         → OnLeg count (legPast l here i) (passed v (entryOf here) (bitOf i) (link here i))
@@ -158,30 +158,30 @@ module _ (rows : ℕ → Rows.Row) (f : Rule) (count : ℕ) (l : Leg) (w : Walk)
         record {
           walk = turned w here (to s);
           on = past-row s;
-          goes-on = rw (turns-there w here (to s) m fine bits) at (meets-row (to s) says);
+          stays-on-way = rw (turns-there w here (to s) m fine bits) at (meets-row (to s) says);
           stage = stage-past s ∙ led ∙ sym (ap (stageOf count) (row-past s));
         }
 
-  -- where it is the last one, the walk ends there with the leg
+  -- if the leg stops at the row, the walk ends there
   ends-here : (t : Turn) → Says t → (holds w here ≡ true → met w here t ≡ ended w AtRow (entryOf here))
       → LegEnds rows f count w l (if judges (l .at) here then Row here else Damage)
-  ends-here t says last = rw (judges-so (l .at) w (on .stands) here) (go (holds w here) refl)
+  ends-here t says last = rw (judges-alike (l .at) w (on .stands) here) (go (holds w here) refl)
     where
       go : (b : Bool) → holds w here ≡ b → LegEnds rows f count w l (if b then Row here else Damage)
       go true fine = ended-with t AtRow (Row here) says (last fine) (refl, ap rows (on .stands .row), refl)
       go false bad = ended-with t AtDamage Damage says (meets-damage w here t bad) refl
 
--- a walk that ended with its leg's last link
-ends-at-link : (rows : ℕ → Rows.Row) (f : Rule) (count : ℕ) (l : Leg) (w : Walk) (e : End) → OnLeg count l w → EndsSo rows w e → LegEnds rows f count w l e
-ends-at-link rows f count l w e on so = record { walk = w; on = on; goes-on = λ width whole g. g; ends = so }
+-- a walk that ended at the last link of its leg
+ends-at-link : (rows : ℕ → Rows.Row) (f : Rule) (count : ℕ) (l : Leg) (w : Walk) (e : End) → OnLeg count l w → EndsAs rows w e → LegEnds rows f count w l e
+ends-at-link rows f count l w e on so = record { walk = w; on = on; stays-on-way = λ width whole g. g; ends = so }
 
--- what ends after a leg ends the whole
+-- the end after the second of two legs is the end after both
 ends-after : (rows : ℕ → Rows.Row) (f : Rule) (count : ℕ) (stageOf : ℕ → ℕ → Stage) (w : Walk) (r : Leg) (e : End) (v : LegWalk rows f count stageOf w r)
     → LegEnds rows f count (v .walk) r e → LegEnds rows f count w r e
 ends-after rows f count stageOf w r e v u =
-    record { walk = u .walk; on = u .on; goes-on = λ width whole g. u .goes-on width whole (v .goes-on width whole g); ends = u .ends }
+    record { walk = u .walk; on = u .on; stays-on-way = λ width whole g. u .stays-on-way width whole (v .stays-on-way width whole g); ends = u .ends }
 
--- the bits left are none where the mask is 0
+-- no bit is left if the mask is 0
 module _ (p : Place) (w : Walk) (st : Stands p w) where
   some-bits : 0 < p .mask → (m : ℕ) × (w .bits ≡ suc m)
   some-bits some = go (w .bits) refl
@@ -197,8 +197,8 @@ module _ (p : Place) (w : Walk) (st : Stands p w) where
       go zero e = e
       go (suc m) e = absurd (omega (arith, inner p w st m e))
 
--- The step of both loops: a leg that passes a row, to the side that the rule says of every walk that is with the leg.
-pub passes-row : (rows : ℕ → Rows.Row) (f : Rule) (count : ℕ) (stageOf : ℕ → ℕ → Stage) (l : Leg) (s : Side) → Passing rows count (l .at)
+-- The step of both loops: the leg passes a row, to the side that the rule says.
+passes-row : (rows : ℕ → Rows.Row) (f : Rule) (count : ℕ) (stageOf : ℕ → ℕ → Stage) (l : Leg) (s : Side) → Passing rows count (l .at)
     → stageOf count (l .at .row) ≡ On
     → stageAt count (link (rows (l .at .row)) s) ≡ stageOf count (link (rows (l .at .row)) s)
     → ((w : Walk) → OnLeg count l w → (m : ℕ) → w .bits ≡ suc m
@@ -207,7 +207,7 @@ pub passes-row : (rows : ℕ → Rows.Row) (f : Rule) (count : ℕ) (stageOf : �
     → Follows rows f count stageOf l (legPast l (rows (l .at .row)) s)
 passes-row rows f count stageOf l s p wants led says w on stage =
     let some = some-bits (l .at) w (on .stands) (p .bits-left) in
-    let fine : holds w (rows (l .at .row)) ≡ true = sym (judges-so (l .at) w (on .stands) (rows (l .at .row))) ∙ p .judged in
+    let fine : holds w (rows (l .at .row)) ≡ true = sym (judges-alike (l .at) w (on .stands) (rows (l .at .row))) ∙ p .judged in
     goes-past rows f count l w on (stage ∙ rw (← on .stands .row) wants) (some .0) (some .1) fine s (says w on) stageOf led
 
 not-true : (b : Bool) → not b ≡ true → b ≡ false
@@ -283,9 +283,9 @@ passes-down rows count side l small goes =
     passes-row rows (down (sideOf side)) count stageHere l _ p (rw (lt-ltb _ _ (p .used))) (rw (ne-eqb _ 0 (turns .1)))
     (λ w on m e. down-says rows count m (l .at .row) _ (sideOf side) ∙ turns .0)
 
--- where a leg down by the links stops, the walk ends
+-- the walk ends where a leg down by the links stops
 pub down-ends : (rows : ℕ → Rows.Row) (count side : ℕ) (l r : Leg)
-    → LegGone rows (down (sideOf side)) count stageHere (passesDown rows count) l r
+    → LegStopped rows (down (sideOf side)) count stageHere (passesDown rows count) l r
     → (w : Walk) → OnLeg count l w → w .stage ≡ stageHere count (w .row)
     → LegEnds rows (down (sideOf side)) count w r (rowEnd rows count (r .at))
 down-ends rows count side l r g w on at = ends-after rows (down (sideOf side)) count stageHere w r _ v (by-used (ltb (r .at .row) count) refl)
@@ -296,10 +296,10 @@ down-ends rows count side l r g w on at = ends-after rows (down (sideOf side)) c
     here : Rows.Row
     here = rows (r .at .row)
 
-    -- a row in use that is no damage is not passed, so it has no link
+    -- an undamaged row in use that is not passed has no link
     last : ltb (r .at .row) count ≡ true → holds (v .walk) here ≡ true → noLinks here ≡ true
     last used fine =
-        let judged : judges (r .at) here ≡ true = judges-so (r .at) (v .walk) (v .on .stands) here ∙ fine in
+        let judged : judges (r .at) here ≡ true = judges-alike (r .at) (v .walk) (v .on .stands) here ∙ fine in
         not-false _ (rw (used, judged) at (g .stopped))
 
     by-used : (b : Bool) → ltb (r .at .row) count ≡ b
@@ -311,7 +311,7 @@ down-ends rows count side l r g w on at = ends-after rows (down (sideOf side)) c
     by-used false unused =
         ends-at-link rows (down (sideOf side)) count r (v .walk) Damage (v .on) (v .stage ∙ rw (← v .on .stands .row, unused))
 
--- The push: the turn by its own bits is what the rule says of a key.
+-- The push: the turn by a key's own bits is the turn that the rule says.
 pub own-turn : (mask m key : ℕ) → mask ≡ 2 ^ suc m - 1 → sideOf (ownSide mask key) ≡ side m key
 own-turn mask m key e = rw (e, and-mask key (suc m), turns-so m key) (side-of-bit (side m key))
 
@@ -344,9 +344,9 @@ passes-push rows count l goes =
     passes-row rows pushing count stageAt l _ p (rw (ne-eqb _ 0 (push-linked rows count (l .at) goes), lt-ltb _ _ (p .used))) refl
     (λ w on m e. ap to (sym (own-turn (l .at .mask) m _ (on .stands .mask ∙ rw e))))
 
--- where a push stops, the walk ends
+-- the walk ends where a push stops
 pub push-ends : (rows : ℕ → Rows.Row) (count : ℕ) (l r : Leg)
-    → LegGone rows pushing count stageAt (passesPush rows count) l r
+    → LegStopped rows pushing count stageAt (passesPush rows count) l r
     → (w : Walk) → OnLeg count l w → w .stage ≡ stageAt count (w .row)
     → LegEnds rows pushing count w r (linkEnd rows count (r .at))
 unfolding pushing
@@ -359,10 +359,10 @@ push-ends rows count l r g w on at =
     here : Rows.Row
     here = rows (r .at .row)
 
-    -- a row in use that is no damage is not passed, so no bit is left there
+    -- at an undamaged row in use that is not passed no bit is left
     last : eqb (r .at .row) 0 ≡ false → ltb (r .at .row) count ≡ true → holds (v .walk) here ≡ true → v .walk .bits ≡ 0
     last there used fine =
-        let judged : judges (r .at) here ≡ true = judges-so (r .at) (v .walk) (v .on .stands) here ∙ fine in
+        let judged : judges (r .at) here ≡ true = judges-alike (r .at) (v .walk) (v .on .stands) here ∙ fine in
         no-bits (r .at) (v .walk) (v .on .stands) (eqb-true (r .at .mask) 0 (not-false _ (rw (there, used, judged) at (g .stopped))))
 
     by-row : (a b : Bool) → eqb (r .at .row) 0 ≡ a → ltb (r .at .row) count ≡ b

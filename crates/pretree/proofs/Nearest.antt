@@ -10,7 +10,7 @@ use Rattle.ordered.specs.Such.{if_then_else_, Perhaps, such, no-such, its, only
 use Rattle.ordered.specs.Word.{right}
 use Rattle.ordered.specs.Tree.{Tree}
 use Rattle.ordered.specs.Way.{Way, Step, way, rows, broken, following, passing-equal, down}
-use Rattle.ordered.specs.Reading.{Found, wordIn, passed-row, Reading, rowsOf, brokenIn, root-row, end-row, end-if, to-its-end, left-left-aside, prev-by, nearest, gap-by, has, prev, next, gap}
+use Rattle.ordered.specs.Reading.{Found, wordIn, passed-row, Reading, rowsOf, brokenIn, root-row, end-row, end-if, to-its-end, skipped-left, prev-by, nearest, gap-by, has, prev, next, gap}
 use Rattle.ordered.proofs.Rows.{rows-append, prev-rows, next-rows}
 use Rattle.pretree.specs.declared.Header.{Header}
 use Rattle.pretree.specs.declared.Answer.{Answer}
@@ -26,21 +26,21 @@ use Rattle.pretree.specs.Reply.{wrong-header, too-wide, refused, answere
 use Rattle.pretree.specs.Find.{saying, word, prevReply, nextReply, gapReply}
 use Rattle.pretree.specs.Gap.{neighbour, from-both, between}
 use Rattle.pretree.specs.Walk.{Walk, Stage, seeking, Walked}
-use Rattle.pretree.specs.Leg.{EndsSo}
+use Rattle.pretree.specs.Leg.{EndsAs}
 use Rattle.pretree.specs.Seek.{bitsLeft, endAt, Sought, SeekEnds}
 use Rattle.pretree.proofs.Checks.{right-header}
-use Rattle.pretree.proofs.Ended.{endsIn, all-gone, rows-gone}
-use Rattle.pretree.proofs.Seeking.{following-is}
+use Rattle.pretree.proofs.Ended.{endsIn, way-end, way-rows}
+use Rattle.pretree.proofs.SeekTurn.{following-is}
 use Rattle.pretree.proofs.Sought.{seek-ends, bits-are}
 use Rattle.pretree.proofs.Found.{empty-way}
 
--- the reply of a reading, once the checks are passed
+-- the reply of a reading call, once the checks are passed
 abbrev reply-with : {A : Type 0} → Header → (A → Answer) → Reading A → Reply
 reply-with h answer r =
     if brokenIn (r .ways) then refused h Damage
     else answered h (saying answer (r .answer)) (rowsOf (r .ways))
 
--- `between` by the neighbours that the replies p and n name
+-- `between`, from the neighbours that the replies p and n give
 pub between-is : (h : Header) (k : ℕ) (p n : Reply) {p' n' : Reply} {lower upper : Neighbour} → p ≡ p' → n ≡ n'
     → neighbour (p .answer) ≡ lower → upper ≡ neighbour (n .answer)
     → from-both h k (p .rows + n .rows) lower upper ≡ between h k p' n'
@@ -52,7 +52,7 @@ unfolding brokenIn
 broken-append [] ws = refl
 broken-append (v ∷ vs) ws = rw (broken-append vs ws) (sym (or-assoc (broken v) (brokenIn vs) (brokenIn ws)))
 
--- both neighbours' replies say what their readings say together
+-- the reply from the replies of both neighbours is the reply from both readings together
 module _ (h : Header) (k : ℕ) (p n : Reading Found) where
   abbrev both : Reading ℕ
   both = record { ways = p .ways ++ n .ways; answer = nearest k (its wordIn (p .answer)) (its wordIn (n .answer)) }
@@ -80,12 +80,12 @@ gapBy h table k n (Ends.the-variants.Row r) =
     else between h k (prevReply h table k) (nextReply h table k)
 gapBy h table k n Ends.the-variants.Damage = refused h Damage
 
--- `prev` goes the way of k first, so what breaks that breaks it
+-- the first way of `prev` is the way of k, so damage there breaks `prev`
 prev-broken : (w : Way) (a : Perhaps Found) (p : Perhaps Step) → broken w ≡ true → brokenIn (prev-by w a p .ways) ≡ true
 unfolding brokenIn
 prev-broken w (such x) p b = rw b
 prev-broken w no-such no-such b = rw b
-prev-broken w no-such (such p) b = go (left-left-aside p)
+prev-broken w no-such (such p) b = go (skipped-left p)
   where
     go : (c : Bool)
         → brokenIn ((if c then to-its-end (w ∷ []) (way (down right) (p .below) (p .left-part)) else record { ways = w ∷ []; answer = such (passed-row p) }) .ways)
@@ -108,7 +108,7 @@ module _ (h : Header) (table : List ℕ) (k : ℕ) (fine : wrong-header h table 
   unfolding nextReply
   next-reply = rw (fine, small)
 
-  -- the two counts are small
+  -- the sum of the two counts is small
   few : (r : Reading Found) → rowsOf (r .ways) ≤ h .width + 2 → reply-with h word r .rows ≤ 34
   few r most = go (brokenIn (r .ways))
     where
@@ -143,7 +143,7 @@ module _ (h : Header) (table : List ℕ) (k : ℕ) (fine : wrong-header h table 
     unfolding gapReply gap has
     at-end = rw (fine, small, following-is k) (by-answer (end-if (eqb k) way-of-k))
 
-    -- damage on the way of k is on that of `prev` too
+    -- damage on the way of k is damage for `prev` too
     damaged-below : broken way-of-k ≡ true → reply-with h Distance (both h k lower upper) ≡ refused h Damage
     unfolding prev
     damaged-below b = rw (broken-append (lower .ways) (upper .ways), prev-broken (way (following k) (h .width) (shown h table)) _ _ (rw (following-is k) b))
@@ -151,7 +151,7 @@ module _ (h : Header) (table : List ℕ) (k : ℕ) (fine : wrong-header h table 
     abbrev Says : End → Stage → Type 0
     Says e stage = by-found (only-if (λ f. eqb k (wordIn f)) (root-row (way-of-k .bits) (endsIn (rowAt table) w stage))) ≡ gapBy h table k (h .width - w .bits) e
 
-    by-end : (e : End) → EndsSo (rowAt table) w e → way-of-k .end ≡ endsIn (rowAt table) w (w .stage) → Says e (w .stage)
+    by-end : (e : End) → EndsAs (rowAt table) w e → way-of-k .end ≡ endsIn (rowAt table) w (w .stage) → Says e (w .stage)
     unfolding by-found broken brokenIn rowsOf
     by-end Ends.the-variants.None at ends = subst (Says Ends.the-variants.None) (sym at) (sym absent)
     by-end Ends.the-variants.Damage at ends = subst (Says Ends.the-variants.Damage) (sym at) (damaged-below (rw (ends, at)))
@@ -161,7 +161,7 @@ module _ (h : Header) (table : List ℕ) (k : ℕ) (fine : wrong-header h table 
         whole = rw (ends, so .0)
 
         there : reply-with h Distance (record { ways = way-of-k ∷ []; answer = such 0 }) ≡ answered h (Distance 0) (h .width - w .bits + 1)
-        there = rw (whole, rows-gone _ _ _ _ _ w gone, add-zero, so .0)
+        there = rw (whole, way-rows _ _ _ _ _ w gone, add-zero, so .0)
 
         by-key : (b : Bool)
             → by-found (if b then such (record { entry = w .entry; bits = way-of-k .bits }) else no-such)
@@ -169,11 +169,11 @@ module _ (h : Header) (table : List ℕ) (k : ℕ) (fine : wrong-header h table 
         by-key true = there
         by-key false = sym absent
 
-    pub gap-ends : (e : End) → EndsSo (rowAt table) w e → gapReply h table k ≡ gapBy h table k (h .width - w .bits) e
+    gap-ends : (e : End) → EndsAs (rowAt table) w e → gapReply h table k ≡ gapBy h table k (h .width - w .bits) e
     gap-ends e so =
         at-end
-        ∙ ap (λ (end : Tree). by-found (only-if (λ f. eqb k (wordIn f)) (root-row (way-of-k .bits) end))) (all-gone _ _ _ _ _ w gone .end)
-        ∙ by-end e so (all-gone _ _ _ _ _ w gone .end)
+        ∙ ap (λ (end : Tree). by-found (only-if (λ f. eqb k (wordIn f)) (root-row (way-of-k .bits) end))) (way-end _ _ _ _ _ w gone .end)
+        ∙ by-end e so (way-end _ _ _ _ _ w gone .end)
 
   -- where its seek stopped
   pub gap-sought : (s : Seek) → Sought (rowAt table) h (shown h table) k s → 0 < h .count
@@ -182,7 +182,7 @@ module _ (h : Header) (table : List ℕ) (k : ℕ) (fine : wrong-header h table 
       let e : SeekEnds (rowAt table) h (shown h table) k s (endAt (rowAt table) (h .count) k s) = seek-ends table h k fine small s g some in
       rw (bits-are table h k fine small s (endAt (rowAt table) (h .count) k s) e) (gap-ends (e .walk) (e .walked) (endAt (rowAt table) (h .count) k s) (e .ends))
 
-  -- with no word there is none near
+  -- in an empty set there is no nearest word
   pub none-near : h .count ≡ 0 → answered h NoSuchWord 0 ≡ gapReply h table k
   unfolding gapReply gap has prev next brokenIn broken rowsOf rows last-such
   none-near empty = rw (fine, small, empty-way h table (following k) empty, empty-way h table (passing-equal k) empty)

@@ -1,4 +1,4 @@
--- The replies of the calls that answer a word, from the walks that went their ways.
+-- The replies of `next` and `prev`, from the walks that have gone their ways.
 use Prim.Native.Nat.{ℕ, suc, _%_}
 use mathlib.Core.Path.{_≡_, ap, ap₂, _∙_}
 use mathlib.Core.Bool.{Bool, true, false, not, _&&_, or-false}
@@ -9,7 +9,7 @@ use Rattle.ordered.specs.Such.{if_then_else_, Perhaps, such, no-such, only-if, 
 use Rattle.ordered.specs.Tree.{Tree, none}
 use Rattle.ordered.specs.Way.{Way, Step, way, rows, broken, isDamaged, ending, following, down}
 use Rattle.ordered.specs.Word.{left, right, sideOf, isSide}
-use Rattle.ordered.specs.Reading.{Found, wordIn, passed-row, Reading, rowsOf, brokenIn, root-row, end-row, end-if, to-its-end, right-child, next-by, left-left-aside, prev-by, next, prev}
+use Rattle.ordered.specs.Reading.{Found, wordIn, passed-row, Reading, rowsOf, brokenIn, root-row, end-row, end-if, to-its-end, right-child, next-by, skipped-left, prev-by, next, prev}
 use Rattle.ordered.proofs.Parts.{same-last}
 use Rattle.ordered.proofs.Ways.{passed-pass, following-seeks}
 use Rattle.pretree.specs.declared.Header.{Header}
@@ -24,36 +24,36 @@ use Rattle.pretree.specs.Reply.{wrong-header, too-wide, refused, answere
 use Rattle.pretree.specs.Find.{saying, word, nextReply, prevReply}
 use Rattle.pretree.specs.Found.{then-by, aside-from, next-from, above-by, above-from, prev-from}
 use Rattle.pretree.specs.Walk.{seeking, stepAt, remembered, rowsRead, Walked}
-use Rattle.pretree.proofs.Ended.{endsIn, all-gone, rows-gone}
+use Rattle.pretree.proofs.Ended.{endsIn, way-end, way-rows}
 use Rattle.pretree.proofs.Unfolding.{there}
-use Rattle.pretree.proofs.Seeking.{following-is, passing-equal-is}
+use Rattle.pretree.proofs.SeekTurn.{following-is, passing-equal-is}
 
--- the reply of a reading, once the checks are passed
+-- the reply of a reading call, once the checks are passed
 abbrev reply-of : Header → Reading Found → Reply
 reply-of h r =
     if brokenIn (r .ways) then refused h Damage
     else answered h (saying word (r .answer)) (rowsOf (r .ways))
 
--- a way that ends at damage is broken, and no other
+-- a way is broken if it ends at damage, and only then
 broken-end : (w : Way) {t : Tree} → w .end ≡ t → broken w ≡ isDamaged t
 unfolding broken
 broken-end w e = rw e
 
-module _ (h : Header) (w : Way) (n : ℕ) (so-many : rows w ≡ n) where
-  -- damage on its first way is damage
+module _ (h : Header) (w : Way) (n : ℕ) (rows-are : rows w ≡ n) where
+  -- damage on the first way refuses the call
   broken-first : (vs : List Way) (a : Perhaps Found) → broken w ≡ true → reply-of h (record { ways = w ∷ vs; answer = a }) ≡ refused h Damage
   unfolding brokenIn
   broken-first vs a b = rw b
 
-  -- one way
+  -- a call with one way
   alone : (a : Perhaps Found) → broken w ≡ false → reply-of h (record { ways = w ∷ []; answer = a }) ≡ answered h (saying word a) n
   unfolding brokenIn rowsOf
-  alone a b = rw (b, so-many, add-zero)
+  alone a b = rw (b, rows-are, add-zero)
 
-  -- a second one, whose end is the answer
+  -- a call with a second way, whose end is the answer
   and-then : (v : Way) → broken w ≡ false → reply-of h (to-its-end (w ∷ []) v) ≡ then-by h n v
   unfolding brokenIn rowsOf
-  and-then v b = rw (b, or-false, so-many, add-zero)
+  and-then v b = rw (b, or-false, rows-are, add-zero)
 
 module _ (h : Header) (table : List ℕ) (k : ℕ) (w : Walk) (fine : wrong-header h table ≡ false) (small : too-wide h k ≡ false)
     (gone : Walked (rowAt table) (seeking (suc k) k) (h .width) (h .count) (shown h table) w) where
@@ -66,42 +66,42 @@ module _ (h : Header) (table : List ℕ) (k : ℕ) (w : Walk) (fine : wrong-head
   abbrev part-at : Stage → Tree
   part-at = endsIn (rowAt table) w
 
-  -- the right child of the row that is remembered, if any is
-  aside-at : (any : Bool) → broken way-gone ≡ false
-      → reply-of h (to-its-end (way-gone ∷ []) (right-child (remembered (rowAt table) (h .count) any (w .beneath) (w .aside) left)))
-      ≡ aside-from h (rowAt table) n any (w .beneath) (w .aside)
+  -- the reply with the right child of the row that is remembered aside, if there is one
+  aside-at : (has-aside : Bool) → broken way-gone ≡ false
+      → reply-of h (to-its-end (way-gone ∷ []) (right-child (remembered (rowAt table) (h .count) has-aside (w .aside-bits) (w .aside) left)))
+      ≡ aside-from h (rowAt table) n has-aside (w .aside-bits) (w .aside)
   unfolding stepAt broken rows
-  aside-at true whole = and-then h way-gone n (rows-gone _ _ _ _ _ w gone) _ whole
-  aside-at false whole = and-then h way-gone n (rows-gone _ _ _ _ _ w gone) _ whole ∙ nothing
+  aside-at true whole = and-then h way-gone n (way-rows _ _ _ _ _ w gone) _ whole
+  aside-at false whole = and-then h way-gone n (way-rows _ _ _ _ _ w gone) _ whole ∙ nothing
     where
       nothing : then-by h n (ending 0 none) ≡ answered h NoSuchWord n
       nothing = rw add-zero
 
   by-stage : (stage : Stage) → way-gone .end ≡ part-at stage
-      → reply-of h (next-by way-gone (only-if (λ f. ltb k (wordIn f)) (root-row (way-gone .bits) (part-at stage))) (remembered (rowAt table) (h .count) (w .any) (w .beneath) (w .aside) left))
-      ≡ next-from h (rowAt table) k stage (w .entry .key) n (w .any) (w .beneath) (w .aside)
-  by-stage On e = aside-at (w .any) (broken-end way-gone e)
-  by-stage AtNone e = aside-at (w .any) (broken-end way-gone e)
-  by-stage AtDamage e = broken-first h way-gone n (rows-gone _ _ _ _ _ w gone) (child ∷ []) (end-row child) (broken-end way-gone e)
+      → reply-of h (next-by way-gone (only-if (λ f. ltb k (wordIn f)) (root-row (way-gone .bits) (part-at stage))) (remembered (rowAt table) (h .count) (w .has-aside) (w .aside-bits) (w .aside) left))
+      ≡ next-from h (rowAt table) k stage (w .entry .key) n (w .has-aside) (w .aside-bits) (w .aside)
+  by-stage On e = aside-at (w .has-aside) (broken-end way-gone e)
+  by-stage AtNone e = aside-at (w .has-aside) (broken-end way-gone e)
+  by-stage AtDamage e = broken-first h way-gone n (way-rows _ _ _ _ _ w gone) (child ∷ []) (end-row child) (broken-end way-gone e)
     where
       child : Way
-      child = right-child (remembered (rowAt table) (h .count) (w .any) (w .beneath) (w .aside) left)
+      child = right-child (remembered (rowAt table) (h .count) (w .has-aside) (w .aside-bits) (w .aside) left)
   by-stage AtRow e = by-key (ltb k (w .entry .key))
     where
       by-key : (b : Bool)
-          → reply-of h (next-by way-gone (if b then such (record { entry = w .entry; bits = way-gone .bits }) else no-such) (remembered (rowAt table) (h .count) (w .any) (w .beneath) (w .aside) left))
-          ≡ (if b then answered h (Word (w .entry .key)) n else aside-from h (rowAt table) n (w .any) (w .beneath) (w .aside))
-      by-key true = alone h way-gone n (rows-gone _ _ _ _ _ w gone) (such (record { entry = w .entry; bits = way-gone .bits })) (broken-end way-gone e)
-      by-key false = aside-at (w .any) (broken-end way-gone e)
+          → reply-of h (next-by way-gone (if b then such (record { entry = w .entry; bits = way-gone .bits }) else no-such) (remembered (rowAt table) (h .count) (w .has-aside) (w .aside-bits) (w .aside) left))
+          ≡ (if b then answered h (Word (w .entry .key)) n else aside-from h (rowAt table) n (w .has-aside) (w .aside-bits) (w .aside))
+      by-key true = alone h way-gone n (way-rows _ _ _ _ _ w gone) (such (record { entry = w .entry; bits = way-gone .bits })) (broken-end way-gone e)
+      by-key false = aside-at (w .has-aside) (broken-end way-gone e)
 
-  pub next-at : nextReply h table k ≡ next-from h (rowAt table) k (w .stage) (w .entry .key) n (w .any) (w .beneath) (w .aside)
+  pub next-at : nextReply h table k ≡ next-from h (rowAt table) k (w .stage) (w .entry .key) n (w .has-aside) (w .aside-bits) (w .aside)
   unfolding nextReply next
   next-at =
       rw (fine, small, passing-equal-is k)
-      (ap₂ (λ (end : Tree) (p : Perhaps Step). reply-of h (next-by way-gone (only-if (λ f. ltb k (wordIn f)) (root-row (way-gone .bits) end)) p)) (all-gone _ _ _ _ _ w gone .end)
-      (all-gone _ _ _ _ _ w gone .aside
-      ∙ ap (λ (c : ℕ). remembered (rowAt table) c (w .any) (w .beneath) (w .aside) left) (gone .walking .same-count))
-      ∙ by-stage (w .stage) (all-gone _ _ _ _ _ w gone .end))
+      (ap₂ (λ (end : Tree) (p : Perhaps Step). reply-of h (next-by way-gone (only-if (λ f. ltb k (wordIn f)) (root-row (way-gone .bits) end)) p)) (way-end _ _ _ _ _ w gone .end)
+      (way-end _ _ _ _ _ w gone .aside
+      ∙ ap (λ (c : ℕ). remembered (rowAt table) c (w .has-aside) (w .aside-bits) (w .aside) left) (gone .walking .same-count))
+      ∙ by-stage (w .stage) (way-end _ _ _ _ _ w gone .end))
 
 module _ (h : Header) (table : List ℕ) (k : ℕ) (w : Walk) (fine : wrong-header h table ≡ false) (small : too-wide h k ≡ false)
     (gone : Walked (rowAt table) (seeking k k) (h .width) (h .count) (shown h table) w) where
@@ -111,14 +111,14 @@ module _ (h : Header) (table : List ℕ) (k : ℕ) (w : Walk) (fine : wrong-head
   abbrev rows-of-k : ℕ
   rows-of-k = rowsRead w (h .width)
 
-  so-many-rows : rows way-of-k ≡ rows-of-k
-  so-many-rows = rows-gone _ _ _ _ _ w gone
+  rows-of-k-are : rows way-of-k ≡ rows-of-k
+  rows-of-k-are = way-rows _ _ _ _ _ w gone
 
-  -- the row above, or the greatest word of its left part
+  -- the reply with the last row passed, or with the greatest word of its left part
   abbrev passed-above : Bool → Perhaps Step
   passed-above b = remembered (rowAt table) (h .count) b (w .bits) (w .above) (sideOf (w .path % 2))
 
-  turned-aside : left-left-aside (stepAt (rowAt table) (h .count) (w .bits) (w .above) (sideOf (w .path % 2)))
+  turned-aside : skipped-left (stepAt (rowAt table) (h .count) (w .bits) (w .above) (sideOf (w .path % 2)))
       ≡ (isSide right (sideOf (w .path % 2)) && not (eqb (rowAt table (w .above) .left) 0))
   unfolding stepAt
   turned-aside = rw (there (rowAt table) (h .count) (w .bits) _ _ (rowAt table (w .above) .left))
@@ -128,7 +128,7 @@ module _ (h : Header) (table : List ℕ) (k : ℕ) (w : Walk) (fine : wrong-head
       ≡ (if b then above-by h (rowAt table) rows-of-k (w .bits) (w .above) (isSide right (sideOf (w .path % 2)) && not (eqb (rowAt table (w .above) .left) 0))
       else answered h NoSuchWord rows-of-k)
   unfolding stepAt
-  above-with false whole = alone h way-of-k rows-of-k so-many-rows no-such whole
+  above-with false whole = alone h way-of-k rows-of-k rows-of-k-are no-such whole
   above-with true whole = rw turned-aside (go (isSide right (sideOf (w .path % 2)) && not (eqb (rowAt table (w .above) .left) 0)))
     where
       p : Step
@@ -137,8 +137,8 @@ module _ (h : Header) (table : List ℕ) (k : ℕ) (w : Walk) (fine : wrong-head
       go : (b : Bool)
           → reply-of h (if b then to-its-end (way-of-k ∷ []) (way (down right) (p .below) (p .left-part)) else record { ways = way-of-k ∷ []; answer = such (passed-row p) })
           ≡ above-by h (rowAt table) rows-of-k (w .bits) (w .above) b
-      go true = and-then h way-of-k rows-of-k so-many-rows _ whole
-      go false = alone h way-of-k rows-of-k so-many-rows (such (passed-row p)) whole
+      go true = and-then h way-of-k rows-of-k rows-of-k-are _ whole
+      go false = alone h way-of-k rows-of-k rows-of-k-are (such (passed-row p)) whole
 
   -- every row that the way of k passed has a key below k
   below-k : last-such (λ (s : Step). ltb (s .entry .key) k) (way-of-k .passed) ≡ last-such anything (way-of-k .passed)
@@ -155,29 +155,29 @@ module _ (h : Header) (table : List ℕ) (k : ℕ) (w : Walk) (fine : wrong-head
       b = broken-end way-of-k e
 
       any-broken : (p : Perhaps Step) → reply-of h (prev-by way-of-k no-such p) ≡ refused h Damage
-      any-broken no-such = broken-first h way-of-k rows-of-k so-many-rows [] no-such b
-      any-broken (such p) = go (left-left-aside p)
+      any-broken no-such = broken-first h way-of-k rows-of-k rows-of-k-are [] no-such b
+      any-broken (such p) = go (skipped-left p)
         where
           d : Way
           d = way (down right) (p .below) (p .left-part)
 
           go : (c : Bool)
               → reply-of h (if c then to-its-end (way-of-k ∷ []) d else record { ways = way-of-k ∷ []; answer = such (passed-row p) }) ≡ refused h Damage
-          go true = broken-first h way-of-k rows-of-k so-many-rows (d ∷ []) (end-row d) b
-          go false = broken-first h way-of-k rows-of-k so-many-rows [] (such (passed-row p)) b
+          go true = broken-first h way-of-k rows-of-k rows-of-k-are (d ∷ []) (end-row d) b
+          go false = broken-first h way-of-k rows-of-k rows-of-k-are [] (such (passed-row p)) b
   prev-by-stage AtRow e = by-key (ltb (w .entry .key) k)
     where
       by-key : (b : Bool)
           → reply-of h (prev-by way-of-k (if b then such (record { entry = w .entry; bits = way-of-k .bits }) else no-such) (passed-above (ltb (w .bits) (h .width))))
           ≡ (if b then answered h (Word (w .entry .key)) rows-of-k else above-from h (rowAt table) rows-of-k (w .bits) (w .path) (w .above))
-      by-key true = alone h way-of-k rows-of-k so-many-rows (such (record { entry = w .entry; bits = way-of-k .bits })) (broken-end way-of-k e)
+      by-key true = alone h way-of-k rows-of-k rows-of-k-are (such (record { entry = w .entry; bits = way-of-k .bits })) (broken-end way-of-k e)
       by-key false = above-with (ltb (w .bits) (h .width)) (broken-end way-of-k e)
 
   pub prev-at : prevReply h table k ≡ prev-from h (rowAt table) k (w .stage) (w .entry .key) rows-of-k (w .bits) (w .path) (w .above)
   unfolding prevReply prev
   prev-at =
       rw (fine, small, following-is k)
-      (ap₂ (λ (end : Tree) (p : Perhaps Step). reply-of h (prev-by way-of-k (only-if (λ f. ltb (wordIn f) k) (root-row (way-of-k .bits) end)) p)) (all-gone _ _ _ _ _ w gone .end)
-      (below-k ∙ all-gone _ _ _ _ _ w gone .above
+      (ap₂ (λ (end : Tree) (p : Perhaps Step). reply-of h (prev-by way-of-k (only-if (λ f. ltb (wordIn f) k) (root-row (way-of-k .bits) end)) p)) (way-end _ _ _ _ _ w gone .end)
+      (below-k ∙ way-end _ _ _ _ _ w gone .above
       ∙ ap (λ (c : ℕ). remembered (rowAt table) c (ltb (w .bits) (h .width)) (w .bits) (w .above) (sideOf (w .path % 2))) (gone .walking .same-count))
-      ∙ prev-by-stage (w .stage) (all-gone _ _ _ _ _ w gone .end))
+      ∙ prev-by-stage (w .stage) (way-end _ _ _ _ _ w gone .end))

@@ -1,4 +1,4 @@
--- The reply of `next`, from the seek that has gone the way of k: as the definition has it, on every table.
+-- The reply of `next`, from the seek that has gone the way of k, is that of the definition on every table.
 use Prim.Native.Nat.{ℕ, suc, pred, _+_, _*_, _-_, _/_, _%_, _^_, _≤_, _<_}
 use mathlib.Core.Path.{_≡_, refl, sym, ap, _∙_, subst}
 use mathlib.Core.Bool.{Bool, true, false, not, _&&_}
@@ -25,7 +25,7 @@ use Rattle.pretree.specs.declared.Answer.the-variants.{Word, NoSuchWord}
 use Rattle.pretree.specs.Reply.{wrong-header, too-wide, answered}
 use Rattle.pretree.specs.Find.{nextReply}
 use Rattle.pretree.specs.Found.{next-from, aside-from}
-use Rattle.pretree.specs.Leg.{EndsSo}
+use Rattle.pretree.specs.Leg.{EndsAs}
 use Rattle.pretree.specs.Seek.{rowOf, bitsLeft, turn, stepped, endOf, endAt, asideOf, spanOf, Sought, SeekEnds}
 use Rattle.pretree.specs.Next.{nextFrom, nextAt}
 use Rattle.pretree.specs.Walk.{Walk, Stage, AtNone, AtRow, AtDamage, isOn, endRead, started, stageAt, holds, ended, remembering, passed, turned, met, seeking, seekTurn, Placed, Walking, Walked}
@@ -39,7 +39,7 @@ use Rattle.pretree.proofs.PassingEqual.{passes-on, stops-past, takes-on
 use Rattle.pretree.proofs.Walking.{begins-root}
 use Rattle.pretree.proofs.Sought.{seek-ends, bits-are}
 
--- what the end of a seek tells: at an empty link it wants no row, and a row at which it ends has a key that is not less than k
+-- what the end of a seek tells: at an empty link its next row is 0, and a row at which it ends has a key of k or more
 module _ (rows : ℕ → Rows.Row) (count k : ℕ) (s : Seek) where
   abbrev there : Rows.Row
   there = rows (rowOf s)
@@ -78,12 +78,12 @@ module _ (rows : ℕ → Rows.Row) (count k : ℕ) (s : Seek) where
 
 -- Where the walk w ended at a row with key k and m + 1 bits left, the seek s goes one row further down with it.
 module _ (rows : ℕ → Rows.Row) (k : ℕ) (s : Seek) (w : Walk) (m : ℕ) (bits : w .bits ≡ suc m) (mask : s .mask ≡ 2 ^ w .bits - 1)
-    (tail : s .tail ≡ k % 2 ^ w .bits) (path : w .path ≡ k / 2 ^ w .bits) (aside : s .aside ≡ asideOf rows (w .any) (w .aside))
-    (span : s .span ≡ spanOf (w .any) (w .beneath)) (equal : rows (w .row) .entry .key ≡ k) where
+    (tail : s .tail ≡ k % 2 ^ w .bits) (path : w .path ≡ k / 2 ^ w .bits) (aside : s .aside ≡ asideOf rows (w .has-aside) (w .aside))
+    (span : s .span ≡ spanOf (w .has-aside) (w .aside-bits)) (equal : rows (w .row) .entry .key ≡ k) where
   abbrev here : Rows.Row
   here = rows (w .row)
 
-  -- to a side, leaving the right link aside or not
+  -- the seek one row further down, to side σ; `leaves` says whether it remembers the right link
   abbrev stepped-to : Bool → Side → Seek
   stepped-to leaves σ =
       record {
@@ -96,7 +96,7 @@ module _ (rows : ℕ → Rows.Row) (k : ℕ) (s : Seek) (w : Walk) (m : ℕ) (bi
         span = if leaves then s .mask / 2 else s .span;
       }
 
-  -- its numbers there
+  -- the numbers of the seek there
   half : s .mask / 2 ≡ 2 ^ m - 1
   half = rw (mask, bits) (half-mask m)
 
@@ -106,10 +106,10 @@ module _ (rows : ℕ → Rows.Row) (k : ℕ) (s : Seek) (w : Walk) (m : ℕ) (bi
   path-on : (σ : Side) → side m k ≡ σ → w .path * 2 + bitOf σ ≡ k / 2 ^ m
   path-on σ e = rw (path, bits) (sym (rw e at (next-bit m k)))
 
-  -- the walk past the row, whatever it remembers
+  -- the walk past the row goes with the seek, whatever it remembers
   shows-past : (v : Walk) (σ : Side) (t : Seek) → side m k ≡ σ → v .bits ≡ suc m → v .path ≡ w .path
       → rowOf t ≡ link here σ → t .mask ≡ s .mask / 2 → t .tail ≡ bitAnd (s .tail) (s .mask / 2)
-      → t .aside ≡ asideOf rows (v .any) (v .aside) → t .span ≡ spanOf (v .any) (v .beneath)
+      → t .aside ≡ asideOf rows (v .has-aside) (v .aside) → t .span ≡ spanOf (v .has-aside) (v .aside-bits)
       → ShowsNext rows k t (passed v (entryOf here) (bitOf σ) (link here σ))
   shows-past v σ t e v-bits v-path t-row t-mask t-tail t-aside t-span =
       let less : pred (v .bits) ≡ m = rw v-bits in
@@ -144,12 +144,12 @@ module _ (rows : ℕ → Rows.Row) (k : ℕ) (s : Seek) (w : Walk) (m : ℕ) (bi
       go false right t e = absurd (suc-ne-zero 0 (sym t))
       go false left t e = to-left (eqb (here .right) 0) refl e
 
--- a row without a right link leaves nothing aside
+-- at a row without a right link nothing new is remembered
 as-before : (b c : Bool) (x y : ℕ) → c ≡ true → (if not b && not c then x else y) ≡ y
 as-before true c x y e = refl
 as-before false c x y e = rw e
 
--- past a row one bit less is left
+-- past a row one bit fewer is left
 turned-bits : (w : Walk) (r : Rows.Row) (σ : Side) → turned w r (to σ) .bits ≡ pred (w .bits)
 unfolding turned
 turned-bits w r right = refl
@@ -167,7 +167,7 @@ module _ (h : Header) (table : List ℕ) (k : ℕ) (fine : wrong-header h table 
     abbrev w : Walk
     w = g .walk
 
-    -- the rows that it passed
+    -- the number of rows that the way passed
     passed-so-far : h .width - bitsLeft (s .mask) ≡ h .width - w .bits
     passed-so-far = rw (bits-are table h k fine small s e g)
 
@@ -178,7 +178,7 @@ module _ (h : Header) (table : List ℕ) (k : ℕ) (fine : wrong-header h table 
     at-damage : w .stage ≡ AtDamage → nextReply h table k ≡ nextAt h rows k s Damage
     at-damage at =
         next-at h table k (resumed w) fine small (record { walking = onward; ended = ap (λ (st : Stage). isOn (again st)) at })
-        ∙ ap (λ (st : Stage). next-from h rows k (again st) (w .entry .key) (h .width - w .bits + endRead (again st)) (w .any) (w .beneath) (w .aside)) at
+        ∙ ap (λ (st : Stage). next-from h rows k (again st) (w .entry .key) (h .width - w .bits + endRead (again st)) (w .has-aside) (w .aside-bits) (w .aside)) at
 
     at-none : w .stage ≡ AtNone → rowOf s ≡ 0 → nextReply h table k ≡ nextAt h rows k s None
     at-none at nowhere =
@@ -196,7 +196,7 @@ module _ (h : Header) (table : List ℕ) (k : ℕ) (fine : wrong-header h table 
           low = λ some. absurd (some no-row);
         }))
 
-    -- at a row with a key that is not less than k
+    -- the way of k ended at a row, whose key is k or more
     module _ (at : w .stage ≡ AtRow) (past : k ≤ rows (w .row) .entry .key) where
       abbrev key : ℕ
       key = rows (w .row) .entry .key
@@ -216,7 +216,7 @@ module _ (h : Header) (table : List ℕ) (k : ℕ) (fine : wrong-header h table 
       abbrev ended-here : Walk
       ended-here = ended (resumed w) AtRow (entryOf (rows (w .row)))
 
-      -- it ends there if the key is greater than k, or no bit is left
+      -- the walk ends there if the key is greater than k, or no bit is left
       stops-greater : k < key → met-row ≡ ended-here
       stops-greater greater = stops-past k (resumed w) (rows (w .row)) judged greater
 
@@ -230,7 +230,7 @@ module _ (h : Header) (table : List ℕ) (k : ℕ) (fine : wrong-header h table 
           next-at h table k met-row fine small (record { walking = walks; ended = ap (λ (v : Walk). isOn (v .stage)) stops })
           ∙ ap (reply-by h table k fine small) stops
 
-      -- else it goes one row further down, as the seek does
+      -- else the walk goes one row further down, as the seek does
       goes-down : (m : ℕ) → w .bits ≡ suc m → key ≡ k → met-row ≡ turned (resumed w) (rows (w .row)) (to (side m k))
       unfolding met
       goes-down m bits equal =
@@ -252,7 +252,7 @@ module _ (h : Header) (table : List ℕ) (k : ℕ) (fine : wrong-header h table 
           let both = and-true (eqb (rows (w .row) .left) 0) _ (subst (λ (b : ℕ). ends-there b (rows (w .row)) ≡ true) none-left ends) in
           (eqb-true _ _ (both .0), eqb-true _ _ (both .1))
 
-      -- and what stands at the right link left aside before is the answer
+      -- and the answer is at the right link that was remembered before
       by-bottom : w .bits ≡ 0 → key ≡ k → nextReply h table k ≡ nextFrom h rows k stepped-on rows-read
       by-bottom none-left equal =
           let none-right : eqb (rows (w .row) .right) 0 ≡ true = eq-eqb _ _ (no-links none-left .1) in
@@ -267,10 +267,10 @@ module _ (h : Header) (table : List ℕ) (k : ℕ) (fine : wrong-header h table 
           no-link z left = no-links z .0
           no-link z right = no-links z .1
 
-          not-greater : reply-by h table k fine small ended-here ≡ aside-from h rows rows-read (w .any) (w .beneath) (w .aside)
+          not-greater : reply-by h table k fine small ended-here ≡ aside-from h rows rows-read (w .has-aside) (w .aside-bits) (w .aside)
           not-greater = rw (le-ltb k key (omega arith))
 
-      -- with bits left the answer stands where the link led, or at the right link left aside
+      -- with bits left the answer is where the link led, or at the right link that is remembered
       by-turn : (m : ℕ) → w .bits ≡ suc m → key ≡ k → nextReply h table k ≡ nextFrom h rows k stepped-on rows-read
       by-turn m bits equal =
           let v : Walk = turned (resumed w) (rows (w .row)) (to (side m k)) in
@@ -292,29 +292,29 @@ module _ (h : Header) (table : List ℕ) (k : ℕ) (fine : wrong-header h table 
           by-key true c = reply-here (stops-greater (ltb-true k key c)) ∙ rw c
           by-key false c = by-bits (eqb (w .bits) 0) refl (omega (arith, ltb-false k key c, past))
 
-    by-end : EndsSo rows w e → Tells rows (h .count) k s e → nextReply h table k ≡ nextAt h rows k s e
+    by-end : EndsAs rows w e → Tells rows (h .count) k s e → nextReply h table k ≡ nextAt h rows k s e
     by-end = go e
       where
-        go : (e : End) → EndsSo rows w e → Tells rows (h .count) k s e → nextReply h table k ≡ nextAt h rows k s e
+        go : (e : End) → EndsAs rows w e → Tells rows (h .count) k s e → nextReply h table k ≡ nextAt h rows k s e
         go None at tells = at-none at tells
         go (Row r) at tells =
             let past : k ≤ rows (w .row) .entry .key = rw (g .row) at tells in
             at-row (at .0) past ∙ ap (λ (r : Rows.Row). nextAt h rows k s (Row r)) (sym (at .1))
         go Damage at tells = at-damage at
 
-  -- `next` replies by the end of the seek
+  -- the reply of `next`, by the end of the seek
   pub next-by-seek : 0 < h .count → Sought rows h (shown h table) k s → nextReply h table k ≡ nextAt h rows k s (endAt rows (h .count) k s)
   next-by-seek some sought =
       let g = seek-ends table h k fine small s sought some in
       by-end (endAt rows (h .count) k s) g (g .ends) (end-tells rows (h .count) k s)
 
-  -- the right link left aside has fewer than 32 bits left below it
+  -- at the remembered right link fewer than 32 bits are left
   pub span-few : 0 < h .count → Sought rows h (shown h table) k s → s .span < 2 ^ 31
   span-few some sought =
       let g = seek-ends table h k fine small s sought some in
-      rw (g .span) (go (g .walk .any) (g .walked .walking .memory .aside-used))
+      rw (g .span) (go (g .walk .has-aside) (g .walked .walking .memory .aside-used))
     where
-      go : {i n m : ℕ} (any : Bool) → (any ≡ true → (i < n) × (m < h .width)) → spanOf any m < 2 ^ 31
+      go : {i n m : ℕ} (has-aside : Bool) → (has-aside ≡ true → (i < n) × (m < h .width)) → spanOf has-aside m < 2 ^ 31
       go false used = omega arith
       go {m} true used =
           let few : m ≤ 31 = omega (arith, used refl .1, right-header h table fine .at-most-32) in

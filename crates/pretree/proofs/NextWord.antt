@@ -1,4 +1,5 @@
--- The next greater word, by the numbers of the seek: the place where it stands is where its definition looks for it, and is judged alike.
+-- The next greater word, as the code finds it: its place is where the definition looks for it, and the code judges the row there as the definition
+-- does.
 use Prim.Native.Nat.{ℕ, zero, suc, _+_, _*_, _-_, _/_, _%_, _^_, _≤_, _<_}
 use mathlib.Core.Path.{_≡_, refl, sym, ap, _∙_}
 use mathlib.Core.Bool.{Bool, true, false, _&&_}
@@ -35,11 +36,11 @@ use Rattle.pretree.specs.Walk.{Walk, On, AtNone, AtRow, AtDamage, isOn, 
 use Rattle.pretree.proofs.Checks.{right-header, narrow}
 use Rattle.pretree.proofs.Found.{stays, row-read}
 use Rattle.pretree.proofs.Neighbours.{next-at}
-use Rattle.pretree.proofs.PassingEqual.{OnWay, aside-on-way, stops-past, takes-on}
-use Rattle.pretree.proofs.Places.{judges-so}
+use Rattle.pretree.proofs.PassingEqual.{PassedFor, aside-passed, stops-past, takes-on}
+use Rattle.pretree.proofs.Places.{judges-alike}
 use Rattle.pretree.proofs.Sought.{last-small}
 
--- what is found at a link's place is the reply of a second way that stays there, if a row is judged alike
+-- if place and definition judge a row alike, what the code finds at a link gives the reply of a second way that stays there
 module _ (h : Header) (rows : ℕ → Row) (n m path low : ℕ) (p : Place)
     (alike : judges p (rows (p .row)) ≡ holds (startedAt (h .count) (p .row) m path low) (rows (p .row))) where
   reads-link : then-by h n (way staying m (linked (unfolded rows (h .count) m path low) (p .row))) ≡ wordBy h n (linkEnd rows (h .count) p)
@@ -52,11 +53,11 @@ module _ (h : Header) (rows : ℕ → Row) (n m path low : ℕ) (p : Place)
       by-row zero e = rw (stays m none, add-zero n)
       by-row (suc i) e = rw (ne-eqb (suc i) 0 (suc-ne-zero i), ← e) (row-read h n rows (h .count) m path low p alike)
 
--- the path of the right part of a row with that key and m bits left below it
+-- the path of the right part of a row with this key and m bits left below it
 abbrev right-path : ℕ → ℕ → ℕ
 right-path key m = key / 2 ^ suc m * 2 + 1
 
--- the place of its right link l, by the numbers of the code
+-- the place of its right link l, as the code computes it
 abbrev aside-place : ℕ → ℕ → ℕ → Place
 aside-place k m l = record { row = l; mask = 2 ^ m - 1; path = bitOr (k - bitAnd k (2 ^ m - 1)) (suc (2 ^ m - 1)); low = suc k }
 
@@ -65,11 +66,11 @@ module _ (k key m : ℕ) (least : key ≤ k) (on-path : key / 2 ^ suc m ≡ k / 
   k-path : k / 2 ^ m ≡ key / 2 ^ suc m * 2 + 0
   k-path = rw on-path (rw goes-left at (next-bit m k))
 
-  -- so they are greater than k,
+  -- so they are greater than k
   greater : (x : ℕ) → x / 2 ^ m ≡ right-path key m → k < x
   greater x e = by-paths m k x (omega (arith, k-path))
 
-  -- and a bound of k says the same of them as a bound of the row's key
+  -- so it makes no difference whether their keys must exceed k or the row's key
   same-bound : (count i : ℕ) (r : Row) → holds (startedAt count i m (right-path key m) (suc k)) r ≡ holds (startedAt count i m (right-path key m) (suc key)) r
   same-bound count i r = go (eqb (r .entry .key / 2 ^ m) (right-path key m)) refl
     where
@@ -90,11 +91,11 @@ module _ (k key m : ℕ) (least : key ≤ k) (on-path : key / 2 ^ suc m ≡ k / 
           rw (le-leb (suc k) x above, le-leb (suc key) x above-key)
       go false e = neither (leb (suc k) x) (leb (suc key) x)
 
-  -- the least of them,
+  -- the least of them
   start : right-path key m * 2 ^ m ≡ key / 2 ^ suc m * 2 ^ suc m + 2 ^ m
   start = rw (add-one (key / 2 ^ suc m * 2), suc-mul (key / 2 ^ suc m * 2) (2 ^ m), pow-suc 2 m, mul-assoc, mul-comm 2 (2 ^ m))
 
-  -- by the numbers of the code
+  -- the code computes the least of them
   start-is : bitOr (k - bitAnd k (2 ^ m - 1)) (suc (2 ^ m - 1)) ≡ right-path key m * 2 ^ m
   start-is =
       let some : 2 ^ m < 2 ^ suc m = pow-lt (lt-suc-self m) in
@@ -103,7 +104,7 @@ module _ (k key m : ℕ) (least : key ≤ k) (on-path : key / 2 ^ suc m ≡ k / 
       let rest : k - k % 2 ^ m ≡ key / 2 ^ suc m * 2 ^ suc m = omega (arith, split k m, k-start) in
       rw (and-mask k m, suc-ones m, rest, or-shifted (key / 2 ^ suc m) (suc m) (2 ^ m) some) (sym start)
 
-  -- The place where their row stands
+  -- the place of their row
   module _ (small : k < 2 ^ 32) (few : suc m ≤ 32) (count l : ℕ) where
     aside-stands : Stands (aside-place k m l) (startedAt count l m (right-path key m) (suc k))
     aside-stands =
@@ -111,18 +112,18 @@ module _ (k key m : ℕ) (least : key ≤ k) (on-path : key / 2 ^ suc m ≡ k / 
         let room-here : key / 2 ^ suc m * 2 ^ suc m + 2 ^ m + (2 ^ m - 1) < 2 ^ 32 = rw on-path (omega (arith, room, pow-suc 2 m)) in
         record { row = refl; mask = refl; path = start-is; low = refl; few = le-of-lt few; room = rw (start-is, start) room-here }
 
-    -- is judged as in the definition.
+    -- the place judges a row as the definition does
     aside-alike : (r : Row) → judges (aside-place k m l) r ≡ holds (startedAt count l m (right-path key m) (suc key)) r
-    aside-alike r = judges-so (aside-place k m l) (startedAt count l m (right-path key m) (suc k)) aside-stands r ∙ same-bound count l r
+    aside-alike r = judges-alike (aside-place k m l) (startedAt count l m (right-path key m) (suc k)) aside-stands r ∙ same-bound count l r
 
--- a link led the walk w here, and the seek s is where it is; the key above, if there is a row here, is k
+-- a link led the walk w here, and the seek s is where w is; if there is a row here, the key above is k
 pub record ShowsNext (rows : ℕ → Row) (k : ℕ) (s : Seek) (w : Walk) : Type 0 where
   pub row : rowOf s ≡ w .row
   pub mask : s .mask ≡ 2 ^ w .bits - 1
   pub tail : s .tail ≡ k % 2 ^ w .bits
   pub path : w .path ≡ k / 2 ^ w .bits
-  pub aside : s .aside ≡ asideOf rows (w .any) (w .aside)
-  pub span : s .span ≡ spanOf (w .any) (w .beneath)
+  pub aside : s .aside ≡ asideOf rows (w .has-aside) (w .aside)
+  pub span : s .span ≡ spanOf (w .has-aside) (w .aside-bits)
   pub stage : w .stage ≡ stageAt (w .count) (w .row)
   pub low : (w .row ≡ 0 → ⊥) → w .low ≡ suc k
 
@@ -133,37 +134,37 @@ module _ (h : Header) (table : List ℕ) (k : ℕ) (fine : wrong-header h table 
   word-small : k < 2 ^ 32
   word-small = lt-of-lt-of-le (narrow h k small) (pow-mono at-most)
 
-  -- the reply of a walk that has gone the whole way
+  -- the reply by a walk that has gone the whole way
   abbrev pub reply-by : Walk → Reply
-  reply-by w = next-from h (rowAt table) k (w .stage) (w .entry .key) (rowsRead w (h .width)) (w .any) (w .beneath) (w .aside)
+  reply-by w = next-from h (rowAt table) k (w .stage) (w .entry .key) (rowsRead w (h .width)) (w .has-aside) (w .aside-bits) (w .aside)
 
-  -- at the right link left aside
+  -- the seek has no next row: the answer is at the right link that it remembers
   module _ (w : Walk) (gone : Walked (rowAt table) (seeking (suc k) k) (h .width) (h .count) (shown h table) w) (s : Seek) (nowhere : rowOf s ≡ 0) (n : ℕ) where
-    aside-by : (any : Bool) → If-such (OnWay k) (remembered (rowAt table) (w .count) any (w .beneath) (w .aside) left)
-        → (any ≡ true → (w .aside < w .count) × (w .beneath < h .width))
-        → s .aside ≡ asideOf (rowAt table) any (w .aside) → s .span ≡ spanOf any (w .beneath)
-        → aside-from h (rowAt table) n any (w .beneath) (w .aside) ≡ nextFrom h (rowAt table) k s n
+    aside-by : (has-aside : Bool) → If-such (PassedFor k) (remembered (rowAt table) (w .count) has-aside (w .aside-bits) (w .aside) left)
+        → (has-aside ≡ true → (w .aside < w .count) × (w .aside-bits < h .width))
+        → s .aside ≡ asideOf (rowAt table) has-aside (w .aside) → s .span ≡ spanOf has-aside (w .aside-bits)
+        → aside-from h (rowAt table) n has-aside (w .aside-bits) (w .aside) ≡ nextFrom h (rowAt table) k s n
     unfolding stepAt
     aside-by false on used aside span = rw (nowhere, aside)
     aside-by true on used aside span =
         let key : ℕ = rowAt table (w .aside) .entry .key in
-        let few : suc (w .beneath) ≤ 32 = le-trans (used refl .1) at-most in
-        let alike = aside-alike k key (w .beneath) (on .least) (on .on-path) (on .turned) word-small few (h .count) (rowAt table (w .aside) .right) (rowAt table (rowAt table (w .aside) .right)) in
-        rw (nowhere, aside, span) (reads-link h (rowAt table) n (w .beneath) (right-path key (w .beneath)) (suc key) (aside-place k (w .beneath) (rowAt table (w .aside) .right)) alike)
+        let few : suc (w .aside-bits) ≤ 32 = le-trans (used refl .1) at-most in
+        let alike = aside-alike k key (w .aside-bits) (on .least) (on .on-path) (on .turned) word-small few (h .count) (rowAt table (w .aside) .right) (rowAt table (rowAt table (w .aside) .right)) in
+        rw (nowhere, aside, span) (reads-link h (rowAt table) n (w .aside-bits) (right-path key (w .aside-bits)) (suc key) (aside-place k (w .aside-bits) (rowAt table (w .aside) .right)) alike)
 
-    pub aside-reply : s .aside ≡ asideOf (rowAt table) (w .any) (w .aside) → s .span ≡ spanOf (w .any) (w .beneath)
-        → aside-from h (rowAt table) n (w .any) (w .beneath) (w .aside) ≡ nextFrom h (rowAt table) k s n
-    aside-reply = aside-by (w .any) (aside-on-way h table k w small gone) (gone .walking .memory .aside-used)
+    pub aside-reply : s .aside ≡ asideOf (rowAt table) (w .has-aside) (w .aside) → s .span ≡ spanOf (w .has-aside) (w .aside-bits)
+        → aside-from h (rowAt table) n (w .has-aside) (w .aside-bits) (w .aside) ≡ nextFrom h (rowAt table) k s n
+    aside-reply = aside-by (w .has-aside) (aside-passed h table k w small gone) (gone .walking .memory .aside-used)
 
-  -- at the row to which a link led
+  -- a link led to a next row: the answer is there
   module _ (v : Walk) (walking : Walking (rowAt table) (seeking (suc k) k) (h .width) (h .count) (shown h table) v) (s : Seek) (shows : ShowsNext (rowAt table) k s v) where
-    abbrev pub n : ℕ
+    abbrev n : ℕ
     n = h .width - v .bits
 
     abbrev r : Row
     r = rowAt table (v .row)
 
-    -- a row that is no damage there is greater than k
+    -- an undamaged row there has a key greater than k
     above-k : (v .row ≡ 0 → ⊥) → holds v r ≡ true → k < r .entry .key
     above-k some judged = leb-true _ _ (rw (shows .low some) at (and-true (leb (v .low) (r .entry .key)) _ judged .0))
 
@@ -197,7 +198,7 @@ module _ (h : Header) (table : List ℕ) (k : ℕ) (fine : wrong-header h table 
     found-there some =
         let there : nextPlace s k ≡ child-place = rw (shows .row, ne-eqb (v .row) 0 some) in
         ap (λ (p : Place). wordBy h n (linkEnd (rowAt table) (h .count) p)) there
-        ∙ rw (ne-eqb (v .row) 0 some, judges-so child-place v (child-stands some) r)
+        ∙ rw (ne-eqb (v .row) 0 some, judges-alike child-place v (child-stands some) r)
 
     -- and what the walk does
     by-child : (v .row ≡ 0 → ⊥) → isOn (v .stage) ≡ true → (b : Bool) → holds v r ≡ b
@@ -216,7 +217,7 @@ module _ (h : Header) (table : List ℕ) (k : ℕ) (fine : wrong-header h table 
         said false judged = refl
         said true judged = rw (lt-ltb k (r .entry .key) (above-k some judged))
 
-    -- the reply, where a link led the walk and the seek
+    -- the reply, where a link led the walk and the seek here
     pub from-link : nextReply h table k ≡ nextFrom h (rowAt table) k s n
     from-link = by-row (eqb (v .row) 0) (ltb (v .row) (h .count)) refl refl
       where

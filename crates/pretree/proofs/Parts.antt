@@ -1,4 +1,4 @@
--- Laws of parts, for the calls on the whole table: what a place and a row show, how their rows are counted, and how they are written.
+-- Laws of parts, for `audit` and `list`: what a place and a row show, how their rows are counted, and how their words are written to the buffer.
 use Prim.Native.Nat.{ℕ, zero, suc, pred, _+_, _*_, _-_, _/_, _%_, _^_, _≤_, _<_}
 use mathlib.Core.Path.{_≡_, refl, sym, ap, _∙_, subst}
 use mathlib.Core.Bool.{Bool, true, false, not, _&&_}
@@ -28,9 +28,9 @@ use Rattle.pretree.specs.Unfold.{ends-there, judged, linked, unfolded}
 use Rattle.pretree.specs.Walk.{Walk, holds, startedAt, passed, below}
 use Rattle.pretree.specs.Leg.{judges, belowPlace, rowEnd, linkEnd, Stands}
 use Rattle.pretree.specs.Seek.{bitsLeft}
-use Rattle.pretree.specs.Part.{ofPlace, rowTree, linkTree, placeTree, counted, StandsSome, Standing, StandingLink, Listable}
+use Rattle.pretree.specs.Part.{ofPlace, rowTree, linkTree, placeTree, counted, SomeWalkStands, Standing, StandingLink, Listable}
 use Rattle.pretree.proofs.Between.{bits-are, half-mask}
-use Rattle.pretree.proofs.Places.{judges-so, below-stands, inner, bits-there}
+use Rattle.pretree.proofs.Places.{judges-alike, below-stands, inner, bits-there}
 use Rattle.pretree.proofs.Unfolding.{is-row, is-damaged}
 
 -- ---- what counting gives
@@ -43,11 +43,11 @@ pub counted-damaged : counted damaged ≡ 0
 unfolding counted intact
 counted-damaged = refl
 
--- both parts have no damage, or there is some
-abbrev pub both : ℕ → ℕ → ℕ
+-- the count of two parts: 0 if there is damage in one of them
+abbrev both : ℕ → ℕ → ℕ
 both a b = if eqb a 0 then 0 else if eqb b 0 then 0 else a + b
 
-pub counted-row : (i : ℕ) (e : Entry) (l r : Tree) → counted (row i e l r) ≡ both (counted l) (counted r)
+counted-row : (i : ℕ) (e : Entry) (l r : Tree) → counted (row i e l r) ≡ both (counted l) (counted r)
 unfolding counted intact size
 counted-row i e l r = go (intact l) (intact r)
   where
@@ -77,7 +77,7 @@ sets-append : (xs ys l : List ℕ) (i : ℕ) → sets (sets l i xs) (i + length 
 sets-append [] ys l i = rw add-zero
 sets-append (x ∷ xs) ys l i = rw (add-suc, ← suc-add) (sets-append xs ys (set l i x) (suc i))
 
--- a row is written before its parts: `next` is its place
+-- a row is written before its parts: its word is at `next`
 listed-row : (i : ℕ) (e : Entry) (l r : Tree) (buffer : List ℕ) (next : ℕ)
     → sets (sets (set buffer next (e .key)) (next + 1) (listing l)) (next + 1 + size l) (listing r) ≡ sets buffer next (listing (row i e l r))
 unfolding entries
@@ -85,10 +85,10 @@ listed-row i e l r buffer next =
     let length-left : length (listing l) ≡ size l = listing-length l in
     rw (words-append (entries l) (entries r), ← length-left, sets-append (listing l) (listing r) (set buffer next (e .key)) (next + 1), add-one)
 
--- ---- a place and the walk that stands there
+-- ---- a place and the walk that is there
 
 module _ (rows : ℕ → Rows.Row) (n : ℕ) where
-  -- what is found at a place tells what stands there
+  -- what a leg finds at a place tells what the place shows
   abbrev pub Found : Place → Tree → End → Type 0
   Found p part None = part ≡ none
   Found p part (Row r) =
@@ -96,22 +96,22 @@ module _ (rows : ℕ → Rows.Row) (n : ℕ) where
   Found p part Damage = part ≡ damaged
 
   module _ (p : Place) (w : Walk) (st : Stands p w) where
-    pub place-bits : bitsLeft (p .mask) ≡ w .bits
+    place-bits : bitsLeft (p .mask) ≡ w .bits
     place-bits = bits-there p w st
 
     place-path : p .path / suc (p .mask) ≡ w .path
     place-path = rw (st .mask, suc-ones (w .bits), st .path) (shl-shr (w .path) (w .bits))
 
-    pub place-shows : placeTree rows n p ≡ linked (unfolded rows n (w .bits) (w .path) (w .low)) (w .row)
+    place-shows : placeTree rows n p ≡ linked (unfolded rows n (w .bits) (w .path) (w .low)) (w .row)
     place-shows = rw (place-bits, place-path, st .low, st .row)
 
     pub row-found : (part : Tree) → part ≡ unfolded rows n (w .bits) (w .path) (w .low) (p .row) → Found p part (rowEnd rows n p)
     row-found part is = go (ltb (p .row) n) (judges p (rows (p .row))) refl refl
       where
         judged-is : (b c : Bool) → ltb (p .row) n ≡ b → judges p (rows (p .row)) ≡ c → judged n (w .bits) (w .path) (w .low) (p .row) (rows (p .row)) ≡ (b && c)
-        judged-is b c used fine = rw (used, sym (judges-so p w st (rows (p .row))) ∙ fine)
+        judged-is b c used fine = rw (used, sym (judges-alike p w st (rows (p .row))) ∙ fine)
 
-        -- a key with the bits of the path is no greater than the last word that has them
+        -- a key with the bits of the path is at most the last word that has them
         below-room : rows (p .row) .entry .key / 2 ^ w .bits ≡ w .path → rows (p .row) .entry .key < 2 ^ 32
         below-room e =
             let key : ℕ = rows (p .row) .entry .key in
@@ -121,7 +121,7 @@ module _ (rows : ℕ → Rows.Row) (n : ℕ) where
 
         go : (b c : Bool) → ltb (p .row) n ≡ b → judges p (rows (p .row)) ≡ c → Found p part (if b && c then Row (rows (p .row)) else Damage)
         go true true used fine =
-            let held : holds w (rows (p .row)) ≡ true = sym (judges-so p w st (rows (p .row))) ∙ fine in
+            let held : holds w (rows (p .row)) ≡ true = sym (judges-alike p w st (rows (p .row))) ∙ fine in
             let past = and-true (leb (w .low) (rows (p .row) .entry .key)) _ held .1 in (
               refl,
               rw place-bits (is ∙ is-row rows n (w .bits) (w .path) (w .low) (p .row) (judged-is true true used fine)),
@@ -147,11 +147,11 @@ module _ (rows : ℕ → Rows.Row) (n : ℕ) where
         go true e = shows ∙ linked-none _ (p .row) (eqb-true (p .row) 0 e)
         go false e = row-found (placeTree rows n p) (shows ∙ linked-row _ (p .row) (eqb-false (p .row) 0 e))
 
-  -- ---- a row that is no damage, and the places below it
+  -- ---- an undamaged row, and the places below it
 
   module _ (mask i : ℕ) (g : Standing rows n mask i) where
-    -- a row with a link has a bit left that decides
-    pub some-bits : not (eqb (rows i .left) 0 && eqb (rows i .right) 0) ≡ true → (m : ℕ) × (g .bits ≡ suc m)
+    -- at a row with a link there is a bit left
+    some-bits : not (eqb (rows i .left) 0 && eqb (rows i .right) 0) ≡ true → (m : ℕ) × (g .bits ≡ suc m)
     some-bits has = go (g .bits) refl (g .ends)
       where
         go : (b : ℕ) → g .bits ≡ b → ends-there b (rows i) ≡ true → (m : ℕ) × (g .bits ≡ suc m)
@@ -168,7 +168,7 @@ module _ (rows : ℕ → Rows.Row) (n : ℕ) where
     abbrev here : Walk
     here = startedAt n 0 (g .bits) (key / 2 ^ g .bits) 0
 
-    pub of-stands : Stands (ofPlace (rows i) mask) here
+    of-stands : Stands (ofPlace (rows i) mask) here
     of-stands =
         record {
           row = refl;
@@ -200,10 +200,10 @@ module _ (rows : ℕ → Rows.Row) (n : ℕ) where
       abbrev child-walk : Walk
       child-walk = passed here (entryOf (rows i)) (bitOf s) (link (rows i) s)
 
-      pub child-stands : Stands child child-walk
+      child-stands : Stands child child-walk
       child-stands = below-stands (ofPlace (rows i) mask) here of-stands m bits (rows i) s here refl refl
 
-      pub child-shows : placeTree rows n child ≡ below rows n (g .bits) i s
+      child-shows : placeTree rows n child ≡ below rows n (g .bits) i s
       child-shows = place-shows child child-walk child-stands ∙ rw bits
 
   -- ---- no part has more rows than its bits allow
@@ -240,10 +240,10 @@ module _ (rows : ℕ → Rows.Row) (n : ℕ) where
   below-few : (m i : ℕ) (s : Side) → counted (below rows n (suc m) i s) ≤ 2 ^ suc m
   below-few m i s = linked-few _ (2 ^ suc m) (pow-pos (suc m)) (λ j. unfolded-few m _ _ j) (link (rows i) s)
 
-  -- ---- how `row_counted` goes on from row to row
+  -- ---- the loop of `row_counted`
 
-  -- the empty links so far and one more, with those of a part that is still to come
-  abbrev pub joined : ℕ → ℕ → ℕ
+  -- The total: `links` is one more than the empty links counted so far, and c is the count of the part ahead. It is 0 if that part has damage.
+  abbrev joined : ℕ → ℕ → ℕ
   joined links c = if eqb c 0 then 0 else pred links + c
 
   pub record Counting (total most : ℕ) (r : Rows.Row) (mask links : ℕ) : Type 0 where
@@ -302,10 +302,10 @@ module _ (rows : ℕ → Rows.Row) (n : ℕ) where
             ∙ rw (side-none (c .standing .bits) left (eqb-true _ _ (zeros .0)), side-none (c .standing .bits) right (eqb-true _ _ (zeros .1)), counted-none)
 
     module _ (has : not (eqb (r .left) 0 && eqb (r .right) 0) ≡ true) (small : r .entry .key < 2 ^ 32) where
-      abbrev pub sidePlace : Side → Place
+      abbrev sidePlace : Side → Place
       sidePlace s = belowPlace (ofPlace r mask) r s
 
-      abbrev pub side-count : Side → ℕ
+      abbrev side-count : Side → ℕ
       side-count s = counted (placeTree rows n (sidePlace s))
 
       pub bits : (m : ℕ) × (c .standing .bits ≡ suc m)
@@ -314,7 +314,7 @@ module _ (rows : ℕ → Rows.Row) (n : ℕ) where
       pub side-stands : (s : Side) → Stands (sidePlace s) (child-walk mask (c .i) (c .standing) (rw (c .at) at small) (bits .0) (bits .1) s)
       side-stands s = rw (c .at) (child-stands mask (c .i) (c .standing) (rw (c .at) at small) (bits .0) (bits .1) s)
 
-      pub side-place : (s : Side) → StandsSome (sidePlace s)
+      pub side-place : (s : Side) → SomeWalkStands (sidePlace s)
       side-place s = record { walk = _; stands = side-stands s }
 
       side-shows : (s : Side) → placeTree rows n (sidePlace s) ≡ below rows n (c .standing .bits) (c .i) s
@@ -385,7 +385,7 @@ module _ (rows : ℕ → Rows.Row) (n : ℕ) where
 
   -- ---- the parts of a row without damage
 
-  -- what a link shows, if that has no damage: a row that is none
+  -- an undamaged part at a link: the link is empty, or leads to an undamaged row
   module _ (m path low : ℕ) (few : m ≤ 32) where
     whole-row : (i : ℕ) → intact (unfolded rows n m path low i) ≡ true
         → (unfolded rows n m path low i ≡ rowTree rows n m i) × Standing rows n (2 ^ m - 1) i
@@ -403,21 +403,21 @@ module _ (rows : ℕ → Rows.Row) (n : ℕ) where
             false-not-true : false ≡ true → ⊥
             false-not-true e = let z : _≡_ {A = ℕ} 0 1 = cc in omega arith
 
-    pub whole-link : (i : ℕ) → intact (linked (unfolded rows n m path low) i) ≡ true
+    whole-link : (i : ℕ) → intact (linked (unfolded rows n m path low) i) ≡ true
         → (linked (unfolded rows n m path low) i ≡ linkTree rows n m i) × StandingLink rows n (2 ^ m - 1) i
     whole-link zero whole = (refl, record { bits = m; few = few; mask-is = refl; row = λ some. absurd (some refl) })
     whole-link (suc i) whole =
         let r = whole-row (suc i) whole in
         (r .0, record { bits = m; few = few; mask-is = refl; row = λ some. r .1 })
 
-  -- ---- how `row_listed` goes on from row to row
+  -- ---- the loop of `row_listed`
 
   pub record Writing (total : Tree) (first : List ℕ) (start most : ℕ) (buffer : List ℕ) (r : Rows.Row) (mask next : ℕ) : Type 0 where
     pub i : ℕ
     pub at : r ≡ rows i
     pub standing : Standing rows n mask i
     pub whole : intact (rowTree rows n (standing .bits) i) ≡ true
-    -- what is still to be written makes the whole
+    -- what is written so far and what is still to be written make the whole listing
     pub to-come : sets buffer next (listing (rowTree rows n (standing .bits) i)) ≡ sets first start (listing total)
     pub end : next + size (rowTree rows n (standing .bits) i) ≡ start + size total
     pub room : start + size total ≤ length buffer

@@ -1,4 +1,4 @@
--- The numbers of a place judge a row as the definitions do, and lead on to the place below.
+-- A place judges a row as the definitions do, and leads on to the place below.
 use Prim.Native.Nat.{ℕ, zero, suc, _+_, _*_, _-_, _/_, _^_, _≤_, _<_}
 use mathlib.Core.Path.{_≡_, refl, sym, ap, _∙_}
 use mathlib.Core.Bool.{Bool, true, false, not, _&&_, _||_}
@@ -32,7 +32,7 @@ module _ (key path b : ℕ) where
   above : differing / 2 ^ b ≡ bitXor (key / 2 ^ b) path
   above = rw (xor-shr key (path * 2 ^ b) b, shl-shr path b)
 
-  -- a key has the bits of a path if it differs from the least word that has them in its last bits only
+  -- a key has the bits of a path if and only if it differs from the least word with these bits in its last b bits only
   has-path : leb differing (2 ^ b - 1) ≡ eqb (key / 2 ^ b) path
   has-path = go (eqb (key / 2 ^ b) path) refl
     where
@@ -47,7 +47,7 @@ module _ (key path b : ℕ) where
               let none : bitXor (key / 2 ^ b) path ≡ 0 = rw (← above) (div-eq-of-lt (lt-of-le-ones b few)) in
               eqb-false (key / 2 ^ b) path e (no-difference (key / 2 ^ b) path none)
 
--- above depth W there are ones left
+-- above depth W the mask is not 0
 some-ones : (m : ℕ) → 0 < 2 ^ suc m - 1
 some-ones m =
     let some : 0 < 2 ^ m = pow-pos m in
@@ -60,8 +60,8 @@ ends-so (suc m) r = rw (ne-eqb (2 ^ suc m - 1) 0 (λ e. omega (arith, some-ones 
 
 module _ (p : Place) (w : Walk) (st : Stands p w) where
   -- the one test of a row
-  pub judges-so : (r : Row) → judges p r ≡ holds w r
-  judges-so r = rw (st .low, st .path, st .mask, has-path (r .entry .key) (w .path) (w .bits), ends-so (w .bits) r)
+  pub judges-alike : (r : Row) → judges p r ≡ holds w r
+  judges-alike r = rw (st .low, st .path, st .mask, has-path (r .entry .key) (w .path) (w .bits), ends-so (w .bits) r)
 
   module _ (m : ℕ) (bits : w .bits ≡ suc m) where
     ones : p .mask ≡ 2 ^ suc m - 1
@@ -70,7 +70,7 @@ module _ (p : Place) (w : Walk) (st : Stands p w) where
     half : p .mask / 2 ≡ 2 ^ m - 1
     half = rw ones (half-mask m)
 
-    -- the place below, past the row to a side: v is the walk w, whatever it remembers
+    -- the place below the row on side s is where the walk past the row is; v is the walk w, whatever it remembers
     pub below-stands : (r : Row) (s : Side) (v : Walk) → v .bits ≡ w .bits → v .path ≡ w .path
         → Stands (belowPlace p r s) (passed v (entryOf r) (bitOf s) (link r s))
     below-stands r s v same-bits same-path =
@@ -106,7 +106,7 @@ module _ (p : Place) (w : Walk) (st : Stands p w) where
 pub bits-there : (p : Place) (w : Walk) → Stands p w → bitsLeft (p .mask) ≡ w .bits
 bits-there p w at = ap bitsLeft (at .mask) ∙ bits-are (w .bits) (at .few)
 
--- the root stands where a walk begins
+-- a walk begins at the place of the root
 pub root-stands : (h : Header) → h .width ≤ 32 → Stands (rootPlace (h .width)) (started h)
 root-stands h few =
     record {

@@ -1,4 +1,4 @@
--- The reply of `prev`, where the seek of the word stopped: by the last row that the way passed, and where the left part of that row stands.
+-- The reply of `prev`, from where the seek of the word stopped: by the last row that the way passed, and by the left part of that row.
 use Prim.Native.Nat.{ℕ, zero, suc, _+_, _*_, _-_, _/_, _%_, _^_, _≤_, _<_}
 use mathlib.Core.Path.{_≡_, refl, sym, ap, _∙_, subst}
 use mathlib.Core.Bool.{Bool, true, false, not, _&&_}
@@ -50,7 +50,7 @@ rows-to-few Ends.the-variants.None n few = omega arith
 rows-to-few (Ends.the-variants.Row r) n few = omega arith
 rows-to-few Ends.the-variants.Damage n few = omega arith
 
--- a row at which the way of k ends is not less than k
+-- a row at which the way of k ends has a key of k or more
 module _ (rows : ℕ → Row) (count k : ℕ) (s : Seek) (r : Row) (e : endAt rows count k s ≡ Ends.the-variants.Row r) where
   nowhere : (c d : Bool)
       → (if c then (if d then Ends.the-variants.None else Ends.the-variants.Damage) else Ends.the-variants.Damage) ≡ Ends.the-variants.Row r → ⊥
@@ -69,7 +69,7 @@ module _ (rows : ℕ → Row) (count k : ℕ) (s : Seek) (r : Row) (e : endAt ro
 abbrev pub leftStart : ℕ → Row → ℕ → Walk
 leftStart count r m = startedAt count (r .left) m (r .entry .key / 2 ^ suc m * 2 + 0) (suc (r .entry .key))
 
--- and where the code says that it stands
+-- and its place, as the code computes it
 module _ (count m : ℕ) (r : Row) (few : m < 32) (narrow : r .entry .key < 2 ^ 32) where
   abbrev key : ℕ
   key = r .entry .key
@@ -110,7 +110,7 @@ no-left true l none = refl
 no-left false l none = none
 
 module _ (table : List ℕ) (h : Header) (k : ℕ) (fine : wrong-header h table ≡ false) (small : too-wide h k ≡ false) where
-  -- with no word there is none less
+  -- in an empty set there is no lesser word
   pub nothing-less : h .count ≡ 0 → answered h NoSuchWord 0 ≡ prevReply h table k
   unfolding prevReply prev brokenIn broken rowsOf rows last-such
   nothing-less empty = rw (fine, small, empty-way h table (following k) empty)
@@ -122,16 +122,16 @@ module _ (table : List ℕ) (h : Header) (k : ℕ) (fine : wrong-header h table 
     abbrev EndsAt : End → Type 0
     EndsAt e = SeekEnds (rowAt table) h (shown h table) k s e
 
-    -- what the last row that the way passed tells, after n rows: by the seek and by the walk
+    -- the reply from the last row that the way passed, after n rows: as the seek has it, and as the walk has it
     abbrev from-last : ℕ → Reply
     from-last n = above-from h (rowAt table) n bits (k / 2 ^ bits) (aboveOf s)
 
     abbrev by-walk : Walk → ℕ → Reply
     by-walk w n = above-from h (rowAt table) n (w .bits) (w .path) (w .above)
 
-    -- the reply by the walk
-    abbrev told : Walk → Reply
-    told w = prev-from h (rowAt table) k (w .stage) (w .entry .key) (rowsRead w (h .width)) (w .bits) (w .path) (w .above)
+    -- the reply by a walk that has gone the way of k
+    abbrev reply-by : Walk → Reply
+    reply-by w = prev-from h (rowAt table) k (w .stage) (w .entry .key) (rowsRead w (h .width)) (w .bits) (w .path) (w .above)
 
     module _ (e : End) (g : EndsAt e) where
       same-bits : bits ≡ g .walk .bits
@@ -140,7 +140,7 @@ module _ (table : List ℕ) (h : Header) (k : ℕ) (fine : wrong-header h table 
       same-last : (n : ℕ) → by-walk (g .walk) n ≡ from-last n
       same-last n = rw (g .path, ← g .above, ← same-bits)
 
-      replied : (n : ℕ) → n ≡ rowsRead (g .walk) (h .width) → told (g .walk) ≡ by-walk (g .walk) (rowsRead (g .walk) (h .width)) → from-last n ≡ prevReply h table k
+      replied : (n : ℕ) → n ≡ rowsRead (g .walk) (h .width) → reply-by (g .walk) ≡ by-walk (g .walk) (rowsRead (g .walk) (h .width)) → from-last n ≡ prevReply h table k
       replied n read so =
           ap from-last read
           ∙ sym (same-last (rowsRead (g .walk) (h .width)))
@@ -151,7 +151,7 @@ module _ (table : List ℕ) (h : Header) (k : ℕ) (fine : wrong-header h table 
         let at : g .walk .stage ≡ AtNone = g .ends in
         let read : h .width - bits ≡ rowsRead (g .walk) (h .width)
         = rw (at, same-bits Ends.the-variants.None g) (sym (add-zero (h .width - g .walk .bits))) in
-        let so : told (g .walk) ≡ by-walk (g .walk) (rowsRead (g .walk) (h .width)) = rw at in
+        let so : reply-by (g .walk) ≡ by-walk (g .walk) (rowsRead (g .walk) (h .width)) = rw at in
         replied Ends.the-variants.None g (h .width - bits) read so
 
     at-row : (r : Row) → EndsAt (Ends.the-variants.Row r) → endAt (rowAt table) (h .count) k s ≡ Ends.the-variants.Row r
@@ -162,13 +162,13 @@ module _ (table : List ℕ) (h : Header) (k : ℕ) (fine : wrong-header h table 
         = ap (λ e. e .key) (g .ends .2) ∙ ap (λ (q : Row). q .entry .key) (g .ends .1 ∙ ap (rowAt table) (sym (g .row))) in
         let large : ltb (g .walk .entry .key) k ≡ false = rw key-is (not-less (rowAt table) (h .count) k s r is) in
         let read : h .width - bits + 1 ≡ rowsRead (g .walk) (h .width) = rw (at, same-bits (Ends.the-variants.Row r) g) in
-        let so : told (g .walk) ≡ by-walk (g .walk) (rowsRead (g .walk) (h .width)) = rw (at, large) in
+        let so : reply-by (g .walk) ≡ by-walk (g .walk) (rowsRead (g .walk) (h .width)) = rw (at, large) in
         replied (Ends.the-variants.Row r) g (h .width - bits + 1) read so
 
     at-damage : EndsAt Ends.the-variants.Damage → refused h Damage ≡ prevReply h table k
     at-damage g =
         let at : g .walk .stage ≡ AtDamage = g .ends in
-        let so : told (g .walk) ≡ refused h Damage = rw at in
+        let so : reply-by (g .walk) ≡ refused h Damage = rw at in
         sym (prev-at h table k (g .walk) fine small (g .walked) ∙ so)
 
     at-end : (e : End) → EndsAt e → e ≡ endAt (rowAt table) (h .count) k s → (e ≡ Ends.the-variants.Damage → ⊥)
@@ -201,27 +201,27 @@ module _ {table : List ℕ} {h : Header} {k : ℕ} {s : Seek} {e : End} (g : Sto
   bits-so : left-bits ≡ went .walk .bits
   bits-so = same-bits table h k (g .fine) (g .small) s e went
 
-  abbrev told-last : ℕ → Reply
-  told-last = from-last table h k (g .fine) (g .small) s
+  abbrev reply-last : ℕ → Reply
+  reply-last = from-last table h k (g .fine) (g .small) s
 
   pub met-damage : e ≡ Ends.the-variants.Damage → refused h Damage ≡ prevReply h table k
   met-damage at =
       at-damage table h k (g .fine) (g .small) s (subst (λ (x : End). SeekEnds (rowAt table) h (shown h table) k s x) at went)
 
-  -- without damage the last row that was passed tells the reply
-  ended-whole : (e ≡ Ends.the-variants.Damage → ⊥) → told-last read ≡ prevReply h table k
+  -- without damage the last row that was passed gives the reply
+  ended-whole : (e ≡ Ends.the-variants.Damage → ⊥) → reply-last read ≡ prevReply h table k
   ended-whole whole = at-end table h k (g .fine) (g .small) s e went (g .end-is) whole
 
   -- where no row was passed
   pub none-less : (e ≡ Ends.the-variants.Damage → ⊥) → h .width - left-bits ≡ 0 → answered h NoSuchWord read ≡ prevReply h table k
   none-less whole none =
-      let so : told-last read ≡ answered h NoSuchWord read = rw (le-ltb left-bits (h .width) (le-of-sub-eq-zero none)) in
+      let so : reply-last read ≡ answered h NoSuchWord read = rw (le-ltb left-bits (h .width) (le-of-sub-eq-zero none)) in
       sym so ∙ ended-whole whole
 
   mask-is : s .mask ≡ 2 ^ left-bits - 1
   mask-is = went .mask ∙ ap (λ (x : ℕ). 2 ^ x - 1) (sym bits-so)
 
-  -- where rows were passed, of the last of them
+  -- where rows were passed: the last of them
   module _ (passed : h .width - left-bits ≡ 0 → ⊥) where
     less : left-bits < h .width
     less = omega (arith, pos-of-ne-zero passed)
@@ -246,11 +246,11 @@ module _ {table : List ℕ} {h : Header} {k : ℕ} {s : Seek} {e : End} (g : Sto
         subst (λ (x : ℕ). Stands (leftPlace last x) (leftStart (h .count) last left-bits)) (sym mask-is)
         (left-stands (h .count) left-bits last few-bits narrow)
 
-    -- it is the answer, or the greatest word of its left part is
+    -- its key is the answer, or the greatest word of its left part is
     abbrev aside : Bool
     aside = isSide right (sideOf (k / 2 ^ left-bits % 2)) && not (eqb (last .left) 0)
 
-    by-side : (b : Bool) → aside ≡ b → told-last read ≡ above-by h (rowAt table) read left-bits (aboveOf s) b
+    by-side : (b : Bool) → aside ≡ b → reply-last read ≡ above-by h (rowAt table) read left-bits (aboveOf s) b
     by-side b side-is = rw (lt-ltb left-bits (h .width) less, side-is)
 
     aside-is : (b : Bool) → eqb (leftIfRight k left-bits last) 0 ≡ b → aside ≡ not b

@@ -1,5 +1,5 @@
--- The push: that the rows which it passes rise, that the code's numbers give the way's entries, that it ends at no row, and that a row
--- taken leaves the rows ahead as they were.
+-- The push: the keys of its rows increase, the code computes the entries of the way, it does not end at a row, and a write to one of its rows
+-- leaves the rows ahead as they were.
 use Prim.Native.Nat.{ℕ, zero, suc, _+_, _*_, _/_, _^_, _≤_, _<_, zero-le}
 use mathlib.Core.Path.{_≡_, refl, sym, ap, _∙_}
 use mathlib.Core.Bool.{Bool, true, false}
@@ -26,7 +26,7 @@ use Rattle.pretree.proofs.Unfolding.{path-in-key, is-damaged, is-row}
 use Rattle.pretree.proofs.Walking.{at-none}
 use Rattle.pretree.proofs.Rows.{entry-length, entry-elsewhere}
 
--- what rises below a number and from another on does so below a greater one and from a smaller one on
+-- `Rising` still holds with a greater `top` and with 0 for `low`
 pub rises-within : (rows : ℕ → Row) (top top′ end n i low : ℕ) → top ≤ top′ → Rising rows top end n i low → Rising rows top′ end n i 0
 unfolding Rising
 rises-within rows top top′ end zero i low more h = tt
@@ -36,7 +36,7 @@ rises-within rows top top′ end (suc n) i low more h = (lt-of-lt-of-le (h .0) m
     go zero i low h = tt
     go (suc n) i low h = (lt-of-lt-of-le (h .0) more, h .1, go n _ _ (h .2))
 
--- what the way of a push says of the rows that it passes from row i on, with m bits left
+-- what the way v of a push tells about the rows that it passes from row i on, where m bits are left
 pub record Pushed (rows : ℕ → Row) (n m i low : ℕ) (v : Way) : Type 0 where
   pub number : v .bits + length (v .passed) ≡ m
   pub takes : (e : Entry) → pushed (fromCode e) (v .passed) ≡ takes-from rows (v .bits) (length (v .passed)) i e
@@ -93,7 +93,7 @@ module _ (rows : ℕ → Row) (n : ℕ) where
           rw (is-row rows n (suc m) path low i h)
           (one-pushed m i low _ _ _ (ltb-true i n (used .0)) (leb-true low key (risen .0)) (by-side rest (side m key)))
 
-  -- with no bit left the path is the key above; a key there has to be greater, so a row there is damage
+  -- with no bit left the path is the key above. A key there must be greater, so a row there is damage.
   bottom : (above path i : ℕ) → path ≡ above / 2 ^ 0 → endRows (unfolded rows n 0 path (suc above) i) ≡ 0
   bottom above path i e = go (judged n 0 path (suc above) i (rows i)) refl
     where
@@ -105,7 +105,7 @@ module _ (rows : ℕ → Row) (n : ℕ) where
           let same : key ≡ above = sym (whole-path key) ∙ path-in-key n 0 path (suc above) i (rows i) h ∙ e ∙ whole-path above in
           absurd (omega arith)
 
-  -- a row is passed, and then the push ends at none where it goes on
+  -- a row is passed, and the rest of the push does not end at a row
   past-row : (m path low i : ℕ)
       → ((path j : ℕ) → path ≡ rows i .entry .key / 2 ^ m → endRows (way pushing m (unfolded rows n m path (suc (rows i .entry .key)) j) .end) ≡ 0)
       → endRows (way pushing (suc m) (unfolded rows n (suc m) path low i) .end) ≡ 0
@@ -128,7 +128,7 @@ module _ (rows : ℕ → Row) (n : ℕ) where
       by-row false h = rw (is-damaged rows n (suc m) path low i h)
       by-row true h = rw (is-row rows n (suc m) path low i h) (by-side (side m key) (next-bit m key))
 
-  -- so a push from a row with bits left ends at an empty link or at damage, and never at a row
+  -- so a push from a row with bits left ends at an empty link or at damage, never at a row
   pub no-end-row : (m path low i : ℕ) → endRows (way pushing (suc m) (unfolded rows n (suc m) path low i) .end) ≡ 0
   unfolding way
   no-end-row zero path low i = past-row zero path low i (λ path j e. bottom (rows i .entry .key) path j e)
@@ -138,7 +138,7 @@ module _ (rows : ℕ → Row) (n : ℕ) where
 pub record Pushes (table₀ : List ℕ) (end n₀ i₀ : ℕ) (e₀ : Entry) (table : List ℕ) (n i : ℕ) (e : Entry) : Type 0 where
   pub low : ℕ
   pub ahead : Rising (rowAt table₀) (capacity table₀) end n i low
-  -- keys rise along the rows ahead, so none of them has taken its entry yet
+  -- the keys increase along the rows ahead, so none of them has taken its entry yet
   pub untouched : (j : ℕ) → low ≤ rowAt table₀ j .entry .key → rowAt table j ≡ rowAt table₀ j
   pub takes : taking (takes-from (rowAt table₀) end n i e) table ≡ taking (takes-from (rowAt table₀) end n₀ i₀ e₀) table₀
   pub left : left-from (rowAt table₀) end n i e ≡ left-from (rowAt table₀) end n₀ i₀ e₀

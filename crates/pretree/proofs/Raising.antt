@@ -1,4 +1,5 @@
--- "each row taking the key below": what a stretch takes is what its rows, one by one, take; and a turn of the loop takes the first.
+-- "each row taking the key below": the entries that the rows of a stretch take, in the definition and row by row in the code; and the loop that
+-- writes them.
 use Prim.Native.Nat.{ℕ, zero, suc, _+_, _*_, _-_, _/_, _^_, _≤_, _<_}
 use mathlib.Core.Path.{_≡_, refl, sym, _∙_, subst}
 use mathlib.Core.Bool.{Bool, true, false, not, true≢false}
@@ -21,18 +22,18 @@ use Rattle.pretree.specs.Table.{entryOf, capacity, rowAt, link, withEntr
 use Rattle.pretree.specs.Unfold.{judged, linked, unfolded}
 use Rattle.pretree.specs.Walk.{below, downTurn}
 use Rattle.pretree.specs.Add.{taking}
-use Rattle.pretree.specs.Erased.{beneath, raising, Rises}
+use Rattle.pretree.specs.Erased.{row-below, raising, Rises}
 use Rattle.pretree.proofs.Unfolding.{is-damaged, is-row}
-use Rattle.pretree.proofs.Falling.{down-says}
+use Rattle.pretree.proofs.DownTurn.{down-says}
 use Rattle.pretree.proofs.Writing.{same-capacity}
 use Rattle.pretree.proofs.Rows.{entry-length, entry-elsewhere}
 
--- the link that the way follows is the one below, and there is one
+-- the link that the way follows is `row-below`, and it is not 0
 record Follows (r : Row) (s : Side) (below : ℕ) : Type 0 where
   same : link r s ≡ below
   some : link r s ≡ 0 → ⊥
 
-follows : (r : Row) (s : Side) → (downTurn left r) ≡ to s → Follows r s (beneath r)
+follows : (r : Row) (s : Side) → (downTurn left r) ≡ to s → Follows r s (row-below r)
 follows r s says = go (eqb (r .left) 0) (eqb (r .right) 0) refl refl says
   where
     go : (a b : Bool) → eqb (r .left) 0 ≡ a → eqb (r .right) 0 ≡ b
@@ -63,14 +64,14 @@ module _ (rows : ℕ → Row) (n room : ℕ) (fits : n ≤ room) where
   abbrev key : ℕ → ℕ
   key i = rows i .entry .key
 
-  -- what a stretch from row i shows, if it meets no damage: what its rows take; and they are in the table, with keys that rise
+  -- a stretch w from row i that meets no damage: the entries that its rows take; the rows are in the table, and their keys increase
   pub record Stretch (low i : ℕ) (w : Way) : Type 0 where
     pub rising : low ≤ key i
     pub top : topmost (w .passed) (entryAt (w .end)) ≡ entryOf (rows i)
     pub takes : raised (w .passed) (entryAt (w .end)) ≡ raising rows (length (w .passed)) i
     pub rises : Rises rows room (length (w .passed)) i
 
-  -- what is known of a row that is no damage
+  -- what is known of an undamaged row
   record Fine (m path low i : ℕ) (t : Tree) : Type 0 where
     is : t ≡ row i (entryOf (rows i)) (below rows n m i left) (below rows n m i right)
     in-table : i < room
@@ -107,11 +108,11 @@ module _ (rows : ℕ → Row) (n room : ℕ) (fits : n ≤ room) where
       let same : i′ ≡ i = cc in
       let entry : e ≡ entryOf (rows i) = cc in
       let turns : (downTurn left (rows i)) ≡ to s = sym (down-says rows n m i (entryOf (rows i)) left) ∙ (cc) in
-      let g : Follows (rows i) s (beneath (rows i)) = follows (rows i) s turns in
+      let g : Follows (rows i) s (row-below (rows i)) = follows (rows i) s turns in
       let part-is : part s l r ≡ below rows n (suc m) i s = by-side s (cc) (cc) in
       let linked-is = linked-some (unfolded rows n m (key i / 2 ^ suc m * 2 + bitOf s) (suc (key i))) (link (rows i) s) (g .some) in
-      let k : Stretch (suc (key i)) (beneath (rows i)) (way (down left) m (part s l r))
-      = rest (key i / 2 ^ suc m * 2 + bitOf s) (suc (key i)) (beneath (rows i)) (part-is ∙ linked-is ∙ rw (g .same)) ok in
+      let k : Stretch (suc (key i)) (row-below (rows i)) (way (down left) m (part s l r))
+      = rest (key i / 2 ^ suc m * 2 + bitOf s) (suc (key i)) (row-below (rows i)) (part-is ∙ linked-is ∙ rw (g .same)) ok in
       record {
         rising = f .above-low;
         top = entry;
@@ -126,7 +127,7 @@ module _ (rows : ℕ → Row) (n room : ℕ) (fits : n ≤ room) where
   pub stretch : (m path low i : ℕ) → let w : Way = way (down left) m (unfolded rows n m path low i) in isDamaged (w .end) ≡ false → Stretch low i w
   stretch m path low i ok = along (down left) P at-end onward m _ path low i refl ok
 
--- where the loop is: what is still to be taken, and the rows that are as they were, which are those below
+-- where the loop is: the writes that are still to come lead to the same table, and the rows further down are as they were
 pub record Raises (start : List ℕ) (from steps : ℕ) (table : List ℕ) (at left : ℕ) : Type 0 where
   pub rises : Rises (rowAt start) (capacity start) left at
   pub rest : taking (raising (rowAt start) left at) table ≡ taking (raising (rowAt start) steps from) start
@@ -136,14 +137,14 @@ pub record Raises (start : List ℕ) (from steps : ℕ) (table : List ℕ) (at l
 pub raises-first : (start : List ℕ) (from steps : ℕ) → Rises (rowAt start) (capacity start) steps from → Raises start from steps start from steps
 raises-first start from steps h = record { rises = h; rest = refl; same = λ i l. refl; long = refl }
 
-pub first-used : (rows : ℕ → Row) (n s i : ℕ) → Rises rows n s i → i < n
+first-used : (rows : ℕ → Row) (n s i : ℕ) → Rises rows n s i → i < n
 unfolding Rises
 first-used rows n zero i h = h
 first-used rows n (suc s) i h = h .0
 
 module _ (start : List ℕ) (from steps : ℕ) (table : List ℕ) (at left : ℕ) (more : left ≡ 0 → ⊥) (k : Raises start from steps table at left) where
   abbrev next : ℕ
-  next = beneath (rowAt start at)
+  next = row-below (rowAt start at)
 
   one-more : left ≡ suc (left - 1)
   one-more = omega (arith, pos-of-ne-zero more)
@@ -164,7 +165,7 @@ module _ (start : List ℕ) (from steps : ℕ) (table : List ℕ) (at left : ℕ
   pub next-same : rowAt table next ≡ rowAt start next
   next-same = k .same next (le-of-lt (risen .0))
 
-  -- the row at which it is takes the key below
+  -- one turn of the loop: the row takes the key below
   pub raises-more : Raises start from steps (withEntry at (entryOf (rowAt start next)) table) next (left - 1)
   unfolding raising taking
   raises-more =

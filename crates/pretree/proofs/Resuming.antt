@@ -1,4 +1,4 @@
--- A walk that goes on from the row at which it ended, by another rule, goes the first way and then the other, joined.
+-- If a walk continues from the row at which it ended by another rule, its whole way is the first way joined with the second.
 use Prim.Native.Nat.{ℕ, zero, suc, _-_, _%_, _<_}
 use mathlib.Core.Path.{_≡_, refl, sym, _∙_, subst}
 use mathlib.Core.Bool.{Bool, true, false, true≢false}
@@ -21,29 +21,12 @@ use Rattle.pretree.specs.Walk.{On, AtNone, AtRow, AtDamage}
 use Rattle.pretree.specs.Walk.{Walk}
 use Rattle.pretree.specs.Table.{entryOf, rowAt}
 use Rattle.pretree.specs.Unfold.{judged, linked, unfolded, shown}
-use Rattle.pretree.specs.Walk.{isOn, endRead, ended, met, treeAt, to-come, below, remembered, Goes, Placed, Walked}
-use Rattle.pretree.specs.Resume.{isDamage, again, resumed, Going}
+use Rattle.pretree.specs.Walk.{isOn, endRead, ended, treeAt, to-come, below, remembered, Ahead, Placed, OnWay, Walked}
+use Rattle.pretree.specs.Resume.{isDamage, again, resumed}
 use Rattle.pretree.proofs.Unfolding.{is-damaged, is-row}
-use Rattle.pretree.proofs.Walking.{at-none, at-damage, is-on, AfterRow, meets}
+use Rattle.pretree.proofs.Walking.{at-none, at-damage}
 
--- a row that the walk wants takes it on along the whole way, if it makes the turn that the rule says
-module _ (rows : ℕ → Row) (f : Rule) (width count : ℕ) (whole : Way) (w : Walk) (on : isOn (w .stage) ≡ true) (k : Going rows f width count whole w) where
-  pub in-use-on : w .row < count
-  in-use-on = rw (← k .same-count) (subst (Placed rows w) (is-on (w .stage) on) (k .placed))
-
-  pub keeps-on : (t : Turn)
-      → ((m : ℕ) → w .bits ≡ suc m
-      → f m (entryOf (rows (w .row))) (below rows (w .count) (suc m) (w .row) left) (below rows (w .count) (suc m) (w .row) right)
-      ≡ t)
-      → Going rows f width count whole (met w (rows (w .row)) t)
-  keeps-on t says =
-      let stage : w .stage ≡ On = is-on (w .stage) on in
-      let a : AfterRow rows f width whole w (met w (rows (w .row)) t)
-      = meets rows f width whole w (subst (Placed rows w) stage (k .placed)) (k .fits) (k .memory)
-      (subst (λ (s : Stage). Goes rows width whole w (to-come rows f w s)) stage (k .goes)) t says in
-      record { goes = a .goes; placed = a .placed; memory = a .memory; fits = a .within; same-count = a .same-count ∙ k .same-count }
-
--- a walk that has ended is on the way that goes on as another
+-- a walk that has gone the first way is on the joined way
 module _ (rows : ℕ → Row) (f g : Rule) (width count : ℕ) (tree : Tree) (w : Walk) where
   abbrev first : Way
   first = way f width tree
@@ -51,9 +34,9 @@ module _ (rows : ℕ → Row) (f g : Rule) (width count : ℕ) (tree : Tree) (w 
   abbrev both : Way
   both = joined first (way g (first .bits) (first .end))
 
-  joined-goes : (t : Tree) (stage : Stage) → Goes rows width first w (ending (w .bits) t) → Goes rows width both (ended w stage (w .entry)) (way g (w .bits) t)
+  joined-ahead : (t : Tree) (stage : Stage) → Ahead rows width first w (ending (w .bits) t) → Ahead rows width both (ended w stage (w .entry)) (way g (w .bits) t)
   unfolding joined last-such
-  joined-goes t stage k =
+  joined-ahead t stage k =
       rw (← k .end, ← k .bits)
       (record {
         end = refl;
@@ -63,15 +46,15 @@ module _ (rows : ℕ → Row) (f g : Rule) (width count : ℕ) (tree : Tree) (w 
         aside = rw (last-such-append _ (first .passed) (way g (w .bits) t .passed), ← k .aside) refl;
       })
 
-  pub resumes : Walked rows f width count tree w → Going rows g width (w .count) both (resumed w)
-  resumes k = by-stage (w .stage) (k .ended) (k .walking .placed) (k .walking .goes)
+  pub resumes : Walked rows f width count tree w → OnWay rows g width (w .count) both (resumed w)
+  resumes k = by-stage (w .stage) (k .ended) (k .walking .placed) (k .walking .ahead)
     where
-      with-coming : (stage : Stage) (t : Tree) → Goes rows width first w (ending (w .bits) t)
+      with-coming : (stage : Stage) (t : Tree) → Ahead rows width first w (ending (w .bits) t)
           → way g (w .bits) t ≡ to-come rows g (ended w stage (w .entry)) stage → Placed rows (ended w stage (w .entry)) stage
-          → Going rows g width (w .count) both (ended w stage (w .entry))
+          → OnWay rows g width (w .count) both (ended w stage (w .entry))
       with-coming stage t h e p =
           record {
-            goes = subst (λ (c : Way). Goes rows width both (ended w stage (w .entry)) c) e (joined-goes t stage h);
+            ahead = subst (λ (c : Way). Ahead rows width both (ended w stage (w .entry)) c) e (joined-ahead t stage h);
             placed = p;
             memory =
                 record { above-used = k .walking .memory .above-used; aside-used = k .walking .memory .aside-used };
@@ -79,27 +62,27 @@ module _ (rows : ℕ → Row) (f g : Rule) (width count : ℕ) (tree : Tree) (w 
             same-count = refl;
           }
 
-      by-stage : (stage : Stage) → isOn stage ≡ false → Placed rows w stage → Goes rows width first w (to-come rows f w stage)
-          → Going rows g width (w .count) both (ended w (again stage) (w .entry))
+      by-stage : (stage : Stage) → isOn stage ≡ false → Placed rows w stage → Ahead rows width first w (to-come rows f w stage)
+          → OnWay rows g width (w .count) both (ended w (again stage) (w .entry))
       by-stage On off p h = absurd (true≢false off)
       by-stage AtNone off p h = with-coming AtNone none h (at-none g (w .bits)) tt
       by-stage AtDamage off p h = with-coming AtDamage damaged h (at-damage g (w .bits)) tt
       by-stage AtRow off p h = with-coming On (treeAt rows w) h refl (p .0)
 
--- what a walk that has ended tells of the way that it has gone
-module _ (rows : ℕ → Row) (f : Rule) (width count : ℕ) (whole : Way) (w : Walk) (off : isOn (w .stage) ≡ false) (k : Going rows f width count whole w) where
-  pub record Told (stage : Stage) : Type 0 where
+-- what a walk that has ended tells about the whole way, by whatever rules it went
+module _ (rows : ℕ → Row) (f : Rule) (width count : ℕ) (whole : Way) (w : Walk) (off : isOn (w .stage) ≡ false) (k : OnWay rows f width count whole w) where
+  pub record WholeWayEnd (stage : Stage) : Type 0 where
     pub damage : isDamaged (whole .end) ≡ isDamage stage
     pub end-rows : endRows (whole .end) ≡ endRead stage
     pub bits : whole .bits ≡ w .bits
     pub number : length (whole .passed) ≡ width - w .bits
     pub above : last-such anything (whole .passed) ≡ remembered rows (w .count) (ltb (w .bits) width) (w .bits) (w .above) (sideOf (w .path % 2))
 
-  pub told : Told (w .stage)
+  pub whole-way-end : WholeWayEnd (w .stage)
   unfolding last-such
-  told = by-stage (w .stage) off (k .placed) (k .goes)
+  whole-way-end = by-stage (w .stage) off (k .placed) (k .ahead)
     where
-      ended-at : (stage : Stage) (t : Tree) → isDamaged t ≡ isDamage stage → endRows t ≡ endRead stage → Goes rows width whole w (ending (w .bits) t) → Told stage
+      ended-at : (stage : Stage) (t : Tree) → isDamaged t ≡ isDamage stage → endRows t ≡ endRead stage → Ahead rows width whole w (ending (w .bits) t) → WholeWayEnd stage
       ended-at stage t d r g =
           record {
             damage = rw (g .end) at d;
@@ -109,7 +92,7 @@ module _ (rows : ℕ → Row) (f : Rule) (width count : ℕ) (whole : Way) (w : 
             above = sym (g .above);
           }
 
-      by-stage : (stage : Stage) → isOn stage ≡ false → Placed rows w stage → Goes rows width whole w (to-come rows f w stage) → Told stage
+      by-stage : (stage : Stage) → isOn stage ≡ false → Placed rows w stage → Ahead rows width whole w (to-come rows f w stage) → WholeWayEnd stage
       by-stage On off p g = absurd (true≢false off)
       by-stage AtNone off p g = ended-at AtNone none refl refl g
       by-stage AtDamage off p g = ended-at AtDamage damaged refl refl g

@@ -1,5 +1,5 @@
--- The laws of a table's rows under the writes: what stands in the row that is written, that every other row and every word past the rows
--- stays, and that the length stays. Other files and crates use these and look at no word of a row themselves.
+-- The laws of a table's rows under the writes: what the written row holds afterwards; every other row, every word past the rows and the length stay.
+-- Other files and crates use these laws and look at no single word of a row.
 use Prim.Native.Nat.{ℕ, suc, _+_, _*_, _≤_, _<_}
 use mathlib.Core.Path.{_≡_, refl, ap, _∙_}
 use mathlib.Core.List.{List, [], _∷_, _++_}
@@ -16,11 +16,11 @@ use Rattle.pretree.specs.declared.Row.{Row}
 use Rattle.pretree.specs.Table.{rowWords, capacity, toCode, rowAt, link, withEntry, withSerial, withLink, withRow, cleared}
 use Rattle.pretree.specs.Add.{taking, hooking}
 
--- row i lies in the table
+-- row i is in the table
 abbrev pub HasRow : List ℕ → ℕ → Type 0
 HasRow table i = rowWords * i + rowWords ≤ length table
 
--- the rows below the capacity lie in the table
+-- the rows below the capacity are in the table
 pub rows-fit : (n : ℕ) (table : List ℕ) → n ≤ capacity table → rowWords * n ≤ length table
 unfolding capacity
 rows-fit n table room = omega arith
@@ -192,12 +192,12 @@ module _ (i serial : ℕ) (table : List ℕ) (j : ℕ) where
   links-stay left = getD-set-other table (rowWords * i + 3) (rowWords * j + 1) serial 0 (λ same. omega arith)
   links-stay right = getD-set-other table (rowWords * i + 3) (rowWords * j + 2) serial 0 (λ same. omega arith)
 
--- a row that takes an entry with the key that it has changes its serial alone
+-- if a row takes an entry with the key that it has, only its serial changes
 pub own-key : (i : ℕ) (e : Entry) (table : List ℕ) → e .key ≡ rowAt table i .entry .key → withEntry i e table ≡ withSerial i (e .serial) table
 unfolding rowAt withEntry
 own-key i e table own = ap (λ k. withSerial i (e .serial) (set table (rowWords * i) k)) own ∙ ap (withSerial i (e .serial)) (set-getD table (rowWords * i) 0)
 
--- a row that takes the entry that it has stays as it is
+-- if a row takes the entry that it has, it stays as it is
 pub own-entry : (i : ℕ) (e : Entry) (table : List ℕ) → toCode e ≡ rowAt table i .entry → withEntry i e table ≡ table
 unfolding rowAt withSerial
 own-entry i e table own =
@@ -226,7 +226,7 @@ pub hooking-length : (p : Perhaps Step) (i : ℕ) (table : List ℕ) → length 
 hooking-length no-such i table = refl
 hooking-length (such s) i table = link-length (s .at) (s .turn) i table
 
--- nor a word past the first c rows, where the row is one of them
+-- no write to one of the first c rows changes a word past them
 module _ (c p : ℕ) (past : rowWords * c ≤ p) (i : ℕ) (used : i < c) (table : List ℕ) where
   word-past : (q v : ℕ) (xs : List ℕ) → q < rowWords * i + rowWords → getD (set xs q v) p 0 ≡ getD xs p 0
   word-past q v xs within = getD-set-other xs q p v 0 (λ same. omega arith)
@@ -265,7 +265,7 @@ same-row table table′ i same =
       same (rowWords * i + 3) (omega arith) (omega arith),
     )
 
--- and a row of zeros is a cleared row
+-- a row of zeros is a cleared row
 pub zero-row :
     (table : List ℕ) (i : ℕ) → ((p : ℕ) → rowWords * i ≤ p → p < rowWords * i + rowWords → getD table p 0 ≡ 0) → rowAt table i ≡ cleared
 unfolding rowAt
@@ -281,11 +281,11 @@ zero-row table i zeros =
 abbrev pub rowAsWords : Row → List ℕ
 rowAsWords r = r .entry .key ∷ r .left ∷ r .right ∷ r .entry .serial ∷ []
 
--- what holds of the word of its entry, of its serial and of both links holds of each of its words
+-- what holds for its key, its serial and both links holds for each of its words
 pub each-in-row : (P : ℕ → Type 0) (r : Row) → P (r .entry .key) → P (r .entry .serial) → ((s : Side) → P (link r s)) → All P (rowAsWords r)
 each-in-row P r own stored links = one-all own (one-all (links left) (one-all (links right) (one-all stored none-all)))
 
--- the row that is read where those words stand
+-- the row that is read where those words are
 pub row-read : (i : ℕ) (r : Row) (before rest : List ℕ) → length before ≡ rowWords * i → rowAt (before ++ (rowAsWords r ++ rest)) i ≡ r
 unfolding rowAt
 row-read i r before rest at =

@@ -1,4 +1,4 @@
--- The walk of the word's way beside a seek: it passes a row as the seek does, and where the seek stops it ends.
+-- The walk that goes with a seek: it passes a row if the seek does, and ends where the seek stops.
 use Prim.Native.Nat.{ℕ, zero, suc, _*_, _-_, _/_, _%_, _^_, _≤_, _<_}
 use mathlib.Core.Path.{_≡_, refl, sym, ap, _∙_, subst}
 use mathlib.Core.List.{List}
@@ -12,7 +12,7 @@ use Rattle.ordered.specs.Such.{if_then_else_}
 use Rattle.ordered.specs.Dictionary.{Entry}
 use Rattle.ordered.specs.Word.{Side, left, right, sideOf, bitOf, side}
 use Rattle.ordered.specs.Tree.{Tree}
-use Rattle.ordered.specs.Way.{stop, to}
+use Rattle.ordered.specs.Way.{way, stop, to}
 use Rattle.ordered.proofs.Bits.{next-bit}
 use Rattle.pretree.specs.declared.Header.{Header}
 use Rattle.pretree.specs.declared.Row as Rows
@@ -23,19 +23,19 @@ use Rattle.pretree.specs.Table.{rowWords, entryOf, rowAt, link}
 use Rattle.pretree.specs.Unfold.{ends-there, shown}
 use Rattle.pretree.specs.Walk.{Walk, Stage, On, AtNone, AtRow, AtDamage}
 use Rattle.pretree.specs.Walk.{started, isOn, holds, ended, remembering, passed, turned, stageAt, met, seeking, seekTurn, Walking}
-use Rattle.pretree.specs.Leg.{EndsSo}
+use Rattle.pretree.specs.Leg.{EndsAs}
 use Rattle.pretree.specs.Seek.{rowOf, begun, passes, goesOn, gone, turn, endOf, asideOf, spanOf, Shows, OnSeek, SeekEnds}
 use Rattle.pretree.specs.Seek as Seeks
 use Rattle.pretree.proofs.Writing.{row-back}
 use Rattle.pretree.proofs.Between.{below-in, below-few, above-in, above-near, half-mask, turns-so, next-rest, side-of-bit}
 use Rattle.pretree.proofs.Walking.{keeps, begins-root}
-use Rattle.pretree.proofs.Seeking.{seek-says}
+use Rattle.pretree.proofs.SeekTurn.{seek-says}
 
 both : (a b : Bool) → (a && b) ≡ true → (a ≡ true) × (b ≡ true)
 both true b e = (refl, e)
 both false b e = absurd (true≢false (sym e))
 
--- a test that gives the bit of a side
+-- a test with the result 0 or 1, which is the bit of a side
 tells-left : (b : Bool) → (if b then 1 else 0) ≡ bitOf left → b ≡ false
 tells-left true e = absurd (omega arith)
 tells-left false e = refl
@@ -44,8 +44,8 @@ tells-right : (b : Bool) → (if b then 1 else 0) ≡ bitOf right → b ≡ true
 tells-right true e = refl
 tells-right false e = absurd (omega arith)
 
--- what a seek asks of a key that it passes
-pub record Passes (s : Seek) (k key : ℕ) : Type 0 where
+-- what the seek's test of a key says
+record Passes (s : Seek) (k key : ℕ) : Type 0 where
   pub less : key < k
   pub nearer : k - 1 - key < s .between
   pub in-tail : k - 1 - key < s .tail
@@ -85,7 +85,7 @@ module _ (rows : ℕ → Rows.Row) (k : ℕ) (s : Seek) (w : Walk) (sh : Shows r
   holds-so : w .low ≤ key → key / 2 ^ w .bits ≡ k / 2 ^ w .bits → ends-there (w .bits) here ≡ true → holds w here ≡ true
   holds-so high in-part at-end = rw (le-leb (w .low) key high, eq-eqb (key / 2 ^ w .bits) (w .path) (in-part ∙ sym (sh .path)), at-end)
 
-  -- the walk after the row that the seek passes
+  -- the walk past a row that the seek passes
   module _ (p : Passes s k key) (m : ℕ) (bits : w .bits ≡ suc m) where
     high : w .low ≤ key
     high = omega (arith, sh .between, p .less, p .nearer)
@@ -100,10 +100,10 @@ module _ (rows : ℕ → Rows.Row) (k : ℕ) (s : Seek) (w : Walk) (sh : Shows r
     turns : turn s ≡ bitOf (side m k)
     turns = rw (sh .mask, sh .tail, bits) (turns-so m k)
 
-    -- by the link l: v is the walk w, and remembers what the seek does
+    -- past the row by the link l; v is the walk w, and remembers aside what the seek does
     link-shows : (v : Walk) (l : ℕ) → v .row ≡ w .row → v .bits ≡ w .bits → v .path ≡ w .path
-        → past-here l .aside ≡ asideOf rows (v .any) (v .aside)
-        → past-here l .span ≡ spanOf (v .any) (v .beneath)
+        → past-here l .aside ≡ asideOf rows (v .has-aside) (v .aside)
+        → past-here l .span ≡ spanOf (v .has-aside) (v .aside-bits)
         → Shows rows k (past-here l) (passed v (entryOf here) (bitOf (side m k)) l)
     link-shows v l same-row same-bits same-path same-aside same-span =
         record {
@@ -156,7 +156,7 @@ module _ (rows : ℕ → Rows.Row) (k : ℕ) (s : Seek) (w : Walk) (sh : Shows r
     Ends = SeekEnds rows h tree k s
 
     -- the walk ends where the seek is
-    ends-at : (stage : Stage) (last : Entry) → Walks (ended w stage last) → isOn stage ≡ false → (e : End) → EndsSo rows (ended w stage last) e → Ends e
+    ends-at : (stage : Stage) (last : Entry) → Walks (ended w stage last) → isOn stage ≡ false → (e : End) → EndsAs rows (ended w stage last) e → Ends e
     ends-at stage last walks off e so =
         record {
           walk = ended w stage last;
@@ -187,12 +187,12 @@ module _ (rows : ℕ → Rows.Row) (k : ℕ) (s : Seek) (w : Walk) (sh : Shows r
     module _ (used : w .row < h .count) where
       walks-on : w .stage ≡ On → Walks on-walk
       walks-on on =
-          keeps rows (seeking k k) (h .width) (h .count) tree w (rw on) g (seekTurn k k key (w .bits)) (λ m e. seek-says k k (w .bits) m _ _ _ e)
+          keeps rows (seeking k k) (h .width) (h .count) (way (seeking k k) (h .width) tree) w (rw on) g (seekTurn k k key (w .bits)) (λ m e. seek-says k k (w .bits) m _ _ _ e)
 
       in-use : w .row < w .count
       in-use = rw (g .same-count) used
 
-      pub passes-on : Passes s k key → Walks on-walk × Shows rows k (past-here (link here (sideOf (turn s)))) on-walk
+      passes-on : Passes s k key → Walks on-walk × Shows rows k (past-here (link here (sideOf (turn s)))) on-walk
       unfolding met
       passes-on p = go (some-bits p)
         where
@@ -224,7 +224,7 @@ module _ (rows : ℕ → Rows.Row) (k : ℕ) (s : Seek) (w : Walk) (sh : Shows r
       low-small : w .low ≤ k
       low-small = omega (arith, sh .between)
 
-      -- a key less than the word that is not passed: the link led nowhere, or the key is damage
+      -- a key less than the word that is not passed: the link was empty, or the row is damage
       below : key < k → passes s k key ≡ false → Ends (if eqb (rowOf s) 0 && not (eqb (s .between) k) then None else Damage)
       below less not-passed = go (eqb (rowOf s) 0) (eqb (s .between) k) refl refl
         where
@@ -263,7 +263,7 @@ module _ (rows : ℕ → Rows.Row) (k : ℕ) (s : Seek) (w : Walk) (sh : Shows r
               let left-root : w .low ≡ 0 → ⊥ = λ e. off-root (sh .at-root e) in
               damaged-here (linked left-root ∙ rw (ne-eqb (w .row) 0 off-root, lt-ltb (w .row) (w .count) in-use)) bad
 
-      -- a key past the word: it has the bits of the path if it is near
+      -- a key greater than the word: it has the bits of the path if it is near enough
       past : k < key → Ends (if ltb (s .mask - s .tail) (key - k) then Damage else Row here)
       past more = go (ltb (s .mask - s .tail) (key - k)) refl
         where
@@ -330,12 +330,12 @@ module _ (rows : ℕ → Rows.Row) (k : ℕ) (s : Seek) (w : Walk) (sh : Shows r
           by-less true e = below (ltb-true key k e) not-passed
           by-less false e = by-more (ltb k key) refl (ltb-false key k e)
 
--- A seek in a table begins with the walk from the root, and goes on with it.
+-- A seek and the walk from the root begin together and continue together.
 module _ (table : List ℕ) (h : Header) (k : ℕ) where
-  abbrev Goes : Seek → Type 0
-  Goes = OnSeek (rowAt table) h (shown h table) k
+  abbrev OnSeekHere : Seek → Type 0
+  OnSeekHere = OnSeek (rowAt table) h (shown h table) k
 
-  pub begins : 0 < h .count → k < 2 ^ h .width → Goes (begun (h .width) k)
+  pub begins : 0 < h .count → k < 2 ^ h .width → OnSeekHere (begun (h .width) k)
   begins some small =
       record {
         walk = started h;
@@ -357,18 +357,19 @@ module _ (table : List ℕ) (h : Header) (k : ℕ) where
             };
       }
 
-  -- what is known where the seek goes on: its row is in use and has a lesser key, the walk goes on too, and the mask falls
+  -- what is known if the seek passes its next row: the row is in use, its key is less than k, a walk goes with the seek past the row, and the mask
+  -- decreases
   pub record Further (s : Seek) : Type 0 where
     pub used : rowOf s < h .count
     pub less : rowAt table (rowOf s) .entry .key < k
-    pub goes : Goes (gone (rowAt table) k s)
+    pub on-seek : OnSeekHere (gone (rowAt table) k s)
     pub falls : s .mask / 2 < s .mask
 
-  pub further : (s : Seek) → Goes s → goesOn (rowAt table) (h .count) k s ≡ true → Further s
-  further s g on = record { used = used; less = passing .less; goes = subst Past (sym (g .shows .row)) past; falls = halves }
+  pub further : (s : Seek) → OnSeekHere s → goesOn (rowAt table) (h .count) k s ≡ true → Further s
+  further s g on = record { used = used; less = passing .less; on-seek = subst Past (sym (g .shows .row)) past; falls = halves }
     where
       Past : ℕ → Type 0
-      Past i = Goes (Seeks.passed s k (rowAt table i .entry .key) (link (rowAt table i) (sideOf (turn s))) (rowAt table i .right))
+      Past i = OnSeekHere (Seeks.passed s k (rowAt table i .entry .key) (link (rowAt table i) (sideOf (turn s))) (rowAt table i .right))
 
       used : rowOf s < h .count
       used = ltb-true _ _ (both (ltb (rowOf s) (h .count)) _ on .0)

@@ -1,4 +1,4 @@
--- A seek goes with the walk of the word's way: it passes a row as the walk does, and where it stops the walk ends.
+-- Where a seek stopped, the walk of the word's way has ended: how it ended, and the place there.
 use Prim.Native.Nat.{ℕ, _+_, _*_, _-_, _/_, _%_, _^_, _≤_, _<_}
 use mathlib.Core.Path.{_≡_, refl, sym, ap, _∙_, subst}
 use mathlib.Core.Bool.{Bool, true, false}
@@ -23,7 +23,7 @@ use Rattle.pretree.proofs.Checks.{right-header, narrow}
 use Rattle.pretree.proofs.Between as Between
 use Rattle.pretree.proofs.SeekWalk.{ends-here, ends-outside}
 
--- the last word with the bits of k's path, where b bits are left, has no more bits than k may have
+-- the last word with the bits of k's path, where b bits are left, is less than 2 ^ width if k is
 pub last-small : (k b width : ℕ) → b ≤ width → k < 2 ^ width → k / 2 ^ b * 2 ^ b + (2 ^ b - 1) < 2 ^ width
 last-small k b width fits small =
     let whole : width - b + b ≡ width = omega arith in
@@ -85,7 +85,7 @@ module _ (table : List ℕ) (h : Header) (k : ℕ) (fine : wrong-header h table 
     pub bits-are : bitsLeft (s .mask) ≡ g .walk .bits
     bits-are = ap bitsLeft (g .mask) ∙ Between.bits-are (g .walk .bits) few
 
-    -- the row that it wants stands where the walk does
+    -- the place of the seek's next row is where the walk is
     pub place-stands : Stands (placeOf s k) (g .walk)
     place-stands =
         let parts : k / 2 ^ g .walk .bits * 2 ^ g .walk .bits + k % 2 ^ g .walk .bits ≡ k = split k (g .walk .bits) in

@@ -1,4 +1,4 @@
--- A test that computes, by which the tables of the examples are shown to be sound in document 01's words.
+-- A test that computes whether a table is sound in document 01's words. proofs/Starred uses it on the tables of the examples.
 use Prim.Native.Nat.{ℕ, zero, suc, _+_, _*_, _-_, _/_, _^_, _<_, _≤_}
 use mathlib.Core.Path.{_≡_, refl, ap, _∙_, sym}
 use mathlib.Core.Bool.{Bool, true, false, _&&_}
@@ -82,7 +82,7 @@ each-once n xs t u i = go (ltb i n) refl
     go true e = once n xs u i (ltb-true i n e)
     go false e = never n xs t i (ltb-false i n e)
 
-abbrev pub soundly : ℕ → ℕ → List Met → Bool
+abbrev soundly : ℕ → ℕ → List Met → Bool
 soundly w n xs = all-below n xs && (once-below n xs && (rising (keysOf xs) && all-placed w xs))
 
 pub sound-rows : (w n : ℕ) (xs : List Met) → T (soundly w n xs) → SoundRows w n xs

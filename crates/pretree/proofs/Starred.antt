@@ -1,5 +1,5 @@
--- The starred examples of document 01 agree with the definitions; and their tables are sound, are the trees of their sets, and are what
--- `add` makes of an empty table.
+-- The starred examples of document 01 hold for the definitions. Their tables are sound, are the trees of their sets, and are what `add` makes from
+-- an empty table.
 use Prim.Native.Nat.{ℕ, _*_}
 use mathlib.Core.Path.{_≡_, refl}
 use mathlib.Core.List.{List, [], _∷_}
@@ -27,7 +27,7 @@ unfolding hasReply nextReply prevReply lastReply gapReply has next prev last gap
     shown unfolded rowAt capacity wrong-header too-wide rowsOf brokenIn way rows broken following passing-equal down staying last-such side
 starred-agree = refl
 
--- what is shown of each of the three
+-- what is proved for each of the three tables
 pub record Good (s : Held) : Type 0 where
   pub sound : Sound (s .header) (s .table)
   pub tree : unnumbered (shown (s .header) (s .table)) ≡ treeOf (s .header .width) (s .set)

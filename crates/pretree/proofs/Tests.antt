@@ -1,4 +1,4 @@
--- Small laws of the tests that the code makes of a side and of a row.
+-- Small laws about the code's tests of a side and of a row.
 use Prim.Native.Nat.{ℕ, zero, suc, _<_, _≤_}
 use mathlib.Core.Path.{_≡_, refl}
 use mathlib.Core.Bool.{true, false}
@@ -15,7 +15,7 @@ pub goes-right : (b : ℕ) → (b ≡ 0 → ⊥) → sideOf b ≡ right
 goes-right zero h = absurd (h refl)
 goes-right (suc b) h = refl
 
--- the tests of a row one after the other, and what is known where each settles them
+-- the tests of `Place::judges` one after the other: each case says what the result is there
 module _ (p : Place) (r : Row) where
   pub too-low : r .entry .key < p .low → false ≡ judges p r
   too-low h = rw (lt-leb _ _ h)

@@ -1,4 +1,4 @@
--- What one row of a table shows: it unfolds to damage where it is judged so, and else to a row with its two parts.
+-- What one row of a table shows: damage if `judged` is false, else a row with its two parts.
 use Prim.Native.Nat.{ℕ, zero, suc, _/_, _^_}
 use mathlib.Core.Path.{_≡_, refl}
 use mathlib.Core.Bool.{Bool, true, false, not}
@@ -29,7 +29,7 @@ module _ (rows : ℕ → Row) (n : ℕ) where
         go zero h = rw h
         go (suc m) h = rw h
 
-    -- a row that is no damage has its path in its key, and shows its parts
+    -- an undamaged row has its path in its key, and shows its parts
     pub is-row : judged n m path low i (rows i) ≡ true
         → unfolded rows n m path low i ≡ row i (entryOf (rows i)) (below rows n m i left) (below rows n m i right)
     unfolding unfolded
@@ -41,14 +41,14 @@ module _ (rows : ℕ → Row) (n : ℕ) where
         go (suc m) h = rw (h, path-in-key n (suc m) path low i (rows i) h)
 
     -- a link that is followed leads to a row or to damage
-    pub is-there : exists (unfolded rows n m path low i) ≡ true
+    is-there : exists (unfolded rows n m path low i) ≡ true
     is-there = go (judged n m path low i (rows i)) refl
       where
         go : (b : Bool) → judged n m path low i (rows i) ≡ b → exists (unfolded rows n m path low i) ≡ true
         go true h = rw (is-row h)
         go false h = rw (is-damaged h)
 
-  -- a part is there where the link is not 0
+  -- a link shows a part if it is not 0
   pub there : (m path low i : ℕ) → exists (linked (unfolded rows n m path low) i) ≡ not (eqb i 0)
   there m path low zero = refl
   there m path low (suc i) = rw (ne-eqb (suc i) 0 (suc-ne-zero i)) (is-there m path low (suc i))

@@ -1,4 +1,4 @@
--- A walk goes the way of its rule: the row that it meets takes one row off the way that is still to come. Whatever the rule.
+-- A walk that makes the turns of its rule stays on its way: each row that it meets is the first one of the way ahead. This holds for every rule.
 use Prim.Native.Nat.{ℕ, zero, suc, pred, _+_, _*_, _-_, _/_, _%_, _^_, _≤_, _<_}
 use mathlib.Core.Path.{_≡_, refl, sym, ap, _∙_, subst}
 use mathlib.Core.Bool.{Bool, true, false, not, _&&_, true≢false}
@@ -12,7 +12,7 @@ use Rattle.ordered.specs.Word.{Side, left, right, sideOf, bitOf, isSide}
 use Rattle.ordered.specs.Dictionary.{Entry}
 use Rattle.ordered.specs.Tree.{Tree, none, row, damaged, part}
 use Rattle.ordered.specs.Way.{Way, Step, Rule, way, ending, passing, stop, to}
-use Rattle.ordered.specs.Reading.{right-left-aside}
+use Rattle.ordered.specs.Reading.{skipped-right}
 use Rattle.ordered.proofs.Parts.{first-of-assoc, first-of-no-such}
 use Rattle.pretree.specs.declared.Header.{Header}
 use Rattle.pretree.specs.declared.Row.{Row}
@@ -23,7 +23,7 @@ use Rattle.ordered.specs.Way.{stop, to}
 use Rattle.pretree.specs.Walk.{Walk}
 use Rattle.pretree.specs.Table.{entryOf, rowAt, link}
 use Rattle.pretree.specs.Unfold.{judged, linked, unfolded, shown}
-use Rattle.pretree.specs.Walk.{isOn, started, holds, ended, remembering, passed, turned, stageAt, met, treeAt, to-come, toCome, below, stepAt, remembered, Goes, Placed, Memory, Walking}
+use Rattle.pretree.specs.Walk.{isOn, started, holds, ended, remembering, passed, turned, stageAt, met, treeAt, to-come, toCome, below, stepAt, remembered, Ahead, Placed, Memory, OnWay, Walking}
 use Rattle.pretree.proofs.Unfolding.{is-damaged, is-row, path-in-key, there}
 
 -- where a way ends at once
@@ -37,13 +37,13 @@ unfolding way
 at-damage f zero = refl
 at-damage f (suc m) = refl
 
--- with no bit left
+-- with no bit left a way ends at once
 at-bottom : (f : Rule) (t : Tree) (m : ℕ) → m ≡ 0 → way f m t ≡ ending m t
 unfolding way
 at-bottom f t zero h = refl
 at-bottom f t (suc m) h = absurd (suc-ne-zero m h)
 
--- at a row, as the rule says
+-- at a row the way does what the rule says
 module _ (f : Rule) (m i : ℕ) (e : Entry) (l r : Tree) where
   stops-at : f m e l r ≡ stop → way f (suc m) (row i e l r) ≡ ending (suc m) (row i e l r)
   unfolding way
@@ -55,7 +55,7 @@ module _ (f : Rule) (m i : ℕ) (e : Entry) (l r : Tree) where
   unfolding way
   turns-at s h = rw h
 
--- what a link leads to, and the stage at which a walk by that link is
+-- the way ahead of a walk that has followed the link i, by the stage it is then at
 module _ (rows : ℕ → Row) (f : Rule) (n m path low : ℕ) where
   abbrev led : ℕ → Stage → Way
   led i On = way f m (unfolded rows n m path low i)
@@ -71,7 +71,7 @@ module _ (rows : ℕ → Row) (f : Rule) (n m path low : ℕ) where
       go true h = refl
       go false h = rw (is-damaged rows n m path low (suc i) (rw h)) (at-damage f m)
 
--- a row is passed to a side, and the way goes on where its link leads
+-- if the rule turns to side s at a row, the way passes the row and continues at its link
 module _ (rows : ℕ → Row) (f : Rule) (n m i : ℕ) (s : Side) where
   abbrev onward : Way
   onward = led rows f n m (rows i .entry .key / 2 ^ suc m * 2 + bitOf s) (suc (rows i .entry .key)) (link (rows i) s) (stageAt n (link (rows i) s))
@@ -94,21 +94,21 @@ last-bit path left = let even : (path * 2 + 0) % 2 ≡ 0 = omega arith in rw eve
 last-bit path right = let odd : (path * 2 + 1) % 2 ≡ 1 = omega arith in rw odd
 
 module _ (rows : ℕ → Row) (width : ℕ) (whole : Way) (w : Walk) where
-  -- a walk that ends has passed and remembers what it had
-  ended-goes : (stage : Stage) (entry : Entry) (coming : Way) → Goes rows width whole w coming → Goes rows width whole (ended w stage entry) coming
-  ended-goes stage entry coming g = record { end = g .end; bits = g .bits; number = g .number; above = g .above; aside = g .aside }
+  -- when a walk ends, what it has passed and remembers stays as it was
+  ended-ahead : (stage : Stage) (entry : Entry) (coming : Way) → Ahead rows width whole w coming → Ahead rows width whole (ended w stage entry) coming
+  ended-ahead stage entry coming g = record { end = g .end; bits = g .bits; number = g .number; above = g .above; aside = g .aside }
 
-  -- a walk that passes a row has passed one more, and remembers it
+  -- when a walk passes a row, it has passed one more and remembers it
   module _ (m : ℕ) (s : Side) (coming : Way) (e : w .bits ≡ suc m) (fits : suc m ≤ width)
-      (g : Goes rows width whole w (passing (stepAt rows (w .count) m (w .row) s) coming)) where
+      (g : Ahead rows width whole w (passing (stepAt rows (w .count) m (w .row) s) coming)) where
     abbrev here : Step
     here = stepAt rows (w .count) m (w .row) s
 
-    -- with what it remembers aside, if that is right
+    -- v is the walk w, with the right row remembered aside
     remembers : (v : Walk) (entry : Entry) (l : ℕ) → v .bits ≡ suc m → v .row ≡ w .row → v .count ≡ w .count
-        → first-of (last-such right-left-aside (coming .passed)) (remembered rows (v .count) (v .any) (v .beneath) (v .aside) left)
-        ≡ last-such right-left-aside (whole .passed)
-        → Goes rows width whole (passed v entry (bitOf s) l) coming
+        → first-of (last-such skipped-right (coming .passed)) (remembered rows (v .count) (v .has-aside) (v .aside-bits) (v .aside) left)
+        ≡ last-such skipped-right (whole .passed)
+        → Ahead rows width whole (passed v entry (bitOf s) l) coming
     unfolding last-such
     remembers v entry l bits same-row same-count aside =
         let less : pred (v .bits) ≡ m = rw bits in
@@ -122,35 +122,35 @@ module _ (rows : ℕ → Row) (width : ℕ) (whole : Way) (w : Walk) where
           aside = aside;
         }
 
-    here-aside : right-left-aside here ≡ (isSide left s && not (eqb (rows (w .row) .right) 0))
+    here-aside : skipped-right here ≡ (isSide left s && not (eqb (rows (w .row) .right) 0))
     unfolding stepAt
     here-aside = rw (there rows (w .count) m _ _ (rows (w .row) .right))
 
-    aside-with : (b : Bool) → right-left-aside here ≡ b
-        → first-of (last-such right-left-aside (coming .passed))
-        (first-of (if b then such here else no-such) (remembered rows (w .count) (w .any) (w .beneath) (w .aside) left))
-        ≡ last-such right-left-aside (whole .passed)
+    aside-with : (b : Bool) → skipped-right here ≡ b
+        → first-of (last-such skipped-right (coming .passed))
+        (first-of (if b then such here else no-such) (remembered rows (w .count) (w .has-aside) (w .aside-bits) (w .aside) left))
+        ≡ last-such skipped-right (whole .passed)
     unfolding last-such
     aside-with b h =
-        sym (first-of-assoc (last-such right-left-aside (coming .passed)) (if b then such here else no-such) _) ∙ rw h at (g .aside)
+        sym (first-of-assoc (last-such skipped-right (coming .passed)) (if b then such here else no-such) _) ∙ rw h at (g .aside)
 
-  turned-goes : (m : ℕ) (s : Side) (coming : Way) → w .bits ≡ suc m → suc m ≤ width
-      → Goes rows width whole w (passing (stepAt rows (w .count) m (w .row) s) coming)
-      → Goes rows width whole (turned w (rows (w .row)) (to s)) coming
+  turned-ahead : (m : ℕ) (s : Side) (coming : Way) → w .bits ≡ suc m → suc m ≤ width
+      → Ahead rows width whole w (passing (stepAt rows (w .count) m (w .row) s) coming)
+      → Ahead rows width whole (turned w (rows (w .row)) (to s)) coming
   unfolding turned
-  turned-goes m right coming e fits g =
+  turned-ahead m right coming e fits g =
       remembers m right coming e fits g w _ _ e refl refl (aside-with m right coming e fits g false (here-aside m right coming e fits g))
-  turned-goes m left coming e fits g = go (eqb (rows (w .row) .right) 0) refl
+  turned-ahead m left coming e fits g = go (eqb (rows (w .row) .right) 0) refl
     where
-      aside-is : right-left-aside (stepAt rows (w .count) m (w .row) left) ≡ not (eqb (rows (w .row) .right) 0)
+      aside-is : skipped-right (stepAt rows (w .count) m (w .row) left) ≡ not (eqb (rows (w .row) .right) 0)
       aside-is = here-aside m left coming e fits g
 
       go : (b : Bool) → eqb (rows (w .row) .right) 0 ≡ b
-          → Goes rows width whole (passed (if b then w else remembering w) (entryOf (rows (w .row))) 0 (rows (w .row) .left)) coming
+          → Ahead rows width whole (passed (if b then w else remembering w) (entryOf (rows (w .row))) 0 (rows (w .row) .left)) coming
       go true h = remembers m left coming e fits g w _ _ e refl refl (aside-with m left coming e fits g false (aside-is ∙ rw h))
       go false h = remembers m left coming e fits g (remembering w) _ _ e refl refl (rw e (aside-with m left coming e fits g true (aside-is ∙ rw h)))
 
--- what is to come after a row is passed
+-- the way ahead after a row is passed
 module _ (rows : ℕ → Row) (f : Rule) (m : ℕ) (entry : Entry) (bit l : ℕ) where
   comes : (v : Walk) (stage : Stage) → v .bits ≡ suc m
       → to-come rows f (passed v entry bit l) stage ≡ led rows f (v .count) m (v .path * 2 + bit) (suc (entry .key)) l stage
@@ -172,16 +172,16 @@ turned-comes rows f w m left r e = go (eqb (r .right) 0)
     go true = comes rows f m (entryOf r) 0 (r .left) w (stageAt (w .count) (r .left)) e
     go false = comes rows f m (entryOf r) 0 (r .left) (remembering w) (stageAt (w .count) (r .left)) e
 
--- what is to be shown of the walk v after a row that the walk w wanted
-pub record AfterRow (rows : ℕ → Row) (f : Rule) (width : ℕ) (whole : Way) (w v : Walk) : Type 0 where
-  pub goes : Goes rows width whole v (toCome rows f v)
+-- what holds for the walk v, which the walk w becomes at its next row
+record AfterRow (rows : ℕ → Row) (f : Rule) (width : ℕ) (whole : Way) (w v : Walk) : Type 0 where
+  pub ahead : Ahead rows width whole v (toCome rows f v)
   pub placed : Placed rows v (v .stage)
   pub memory : Memory width v
   pub within : v .bits ≤ width
   pub same-count : v .count ≡ w .count
 
 module _ (rows : ℕ → Row) (f : Rule) (width : ℕ) (whole : Way) (w : Walk) (used : w .row < w .count) (fits : w .bits ≤ width)
-    (mem : Memory width w) (g : Goes rows width whole w (way f (w .bits) (treeAt rows w))) where
+    (mem : Memory width w) (g : Ahead rows width whole w (way f (w .bits) (treeAt rows w))) where
   abbrev here-row : Row
   here-row = rows (w .row)
 
@@ -194,7 +194,7 @@ module _ (rows : ℕ → Row) (f : Rule) (width : ℕ) (whole : Way) (w : Walk) 
   abbrev After : Walk → Type 0
   After = AfterRow rows f width whole w
 
-  -- the row is judged by its number, which is in use, and by the rest
+  -- the number of the row is in use, so the other damage rules decide
   judged-is : (b : Bool) → holds w here-row ≡ b → judged (w .count) (w .bits) (w .path) (w .low) (w .row) here-row ≡ b
   judged-is b h = rw (lt-ltb (w .row) (w .count) used) h
 
@@ -202,13 +202,13 @@ module _ (rows : ℕ → Row) (f : Rule) (width : ℕ) (whole : Way) (w : Walk) 
       → treeAt rows w ≡ row (w .row) entry (below rows (w .count) (w .bits) (w .row) left) (below rows (w .count) (w .bits) (w .row) right)
   shows h = is-row rows (w .count) (w .bits) (w .path) (w .low) (w .row) (judged-is true h)
 
-  with-coming : (v : Walk) (coming : Way) → coming ≡ toCome rows f v → Goes rows width whole v coming → Goes rows width whole v (toCome rows f v)
-  with-coming v coming e h = subst (λ (c : Way). Goes rows width whole v c) e h
+  with-coming : (v : Walk) (coming : Way) → coming ≡ toCome rows f v → Ahead rows width whole v coming → Ahead rows width whole v (toCome rows f v)
+  with-coming v coming e h = subst (λ (c : Way). Ahead rows width whole v c) e h
 
   ends : (stage : Stage) → way f (w .bits) (treeAt rows w) ≡ toCome rows f (ended w stage entry) → Placed rows (ended w stage entry) stage → After (ended w stage entry)
   ends stage e p =
       record {
-        goes = with-coming _ _ e (ended-goes rows width whole w stage entry _ g);
+        ahead = with-coming _ _ e (ended-ahead rows width whole w stage entry _ g);
         placed = p;
         memory = record { above-used = mem .above-used; aside-used = mem .aside-used };
         within = fits;
@@ -224,31 +224,31 @@ module _ (rows : ℕ → Row) (f : Rule) (width : ℕ) (whole : Way) (w : Walk) 
       go false false h = tt
 
   passed-after : (v : Walk) (bit l : ℕ) → v .bits ≡ w .bits → v .count ≡ w .count → v .row ≡ w .row
-      → (v .any ≡ true → (v .aside < w .count) × (v .beneath < width))
-      → Goes rows width whole (passed v entry bit l) (toCome rows f (passed v entry bit l)) → After (passed v entry bit l)
+      → (v .has-aside ≡ true → (v .aside < w .count) × (v .aside-bits < width))
+      → Ahead rows width whole (passed v entry bit l) (toCome rows f (passed v entry bit l)) → After (passed v entry bit l)
   passed-after v bit l bits same-count same-row aside h =
       record {
-        goes = h;
+        ahead = h;
         placed = link-placed v bit l;
-        memory = record { above-used = λ less. rw (same-row, same-count) used; aside-used = λ any. rw same-count (aside any) };
+        memory = record { above-used = λ less. rw (same-row, same-count) used; aside-used = λ has-aside. rw same-count (aside has-aside) };
         within = rw bits (le-trans (pred-le (w .bits)) fits);
         same-count = same-count;
       }
 
-  turned-after : (s : Side) → (w .bits ≡ 0 → ⊥) → Goes rows width whole (turned w here-row (to s)) (toCome rows f (turned w here-row (to s)))
+  turned-after : (s : Side) → (w .bits ≡ 0 → ⊥) → Ahead rows width whole (turned w here-row (to s)) (toCome rows f (turned w here-row (to s)))
       → After (turned w here-row (to s))
   unfolding turned
   turned-after right some h = passed-after w 1 (here-row .right) refl refl refl (mem .aside-used) h
   turned-after left some h = go (eqb (here-row .right) 0) h
     where
       go : (b : Bool)
-          → (let v : Walk = passed (if b then w else remembering w) entry 0 (here-row .left) in Goes rows width whole v (toCome rows f v) → After v)
+          → (let v : Walk = passed (if b then w else remembering w) entry 0 (here-row .left) in Ahead rows width whole v (toCome rows f v) → After v)
       go true h = passed-after w 0 (here-row .left) refl refl refl (mem .aside-used) h
       go false h =
           let fewer : pred (w .bits) < width = omega (arith, pos-of-ne-zero some) in
-          passed-after (remembering w) 0 (here-row .left) refl refl refl (λ any. (used, fewer)) h
+          passed-after (remembering w) 0 (here-row .left) refl refl refl (λ has-aside. (used, fewer)) h
 
-  -- what the rule says at the row, with m bits left below it
+  -- the rule says the turn t at the row, with m bits left below it
   abbrev Says : ℕ → Turn → Type 0
   Says m t = f m entry (below rows (w .count) (suc m) (w .row) left) (below rows (w .count) (suc m) (w .row) right) ≡ t
 
@@ -261,7 +261,7 @@ module _ (rows : ℕ → Row) (f : Rule) (width : ℕ) (whole : Way) (w : Walk) 
       (with-coming _ _
       (ap (λ (path : ℕ). led rows f (w .count) m (path * 2 + bitOf s) (suc key) (link here-row s) (stageAt (w .count) (link here-row s))) path-is
       ∙ sym (turned-comes rows f w m s here-row e))
-      (turned-goes rows width whole w m s _ e (rw e at fits) (subst (λ (c : Way). Goes rows width whole w c) on g)))
+      (turned-ahead rows width whole w m s _ e (rw e at fits) (subst (λ (c : Way). Ahead rows width whole w c) on g)))
     where
       turn-says : (s : Side) → Says m (to s)
           → f m entry (below rows (w .count) (suc m) (w .row) left) (below rows (w .count) (suc m) (w .row) right) ≡ to s
@@ -274,8 +274,8 @@ module _ (rows : ℕ → Row) (f : Rule) (width : ℕ) (whole : Way) (w : Walk) 
   by-turn m (to left) e h says = passes-by m left e h says
   by-turn m (to right) e h says = passes-by m right e h says
 
-  -- the row that the walk wants takes it on along the whole way
-  pub meets : (t : Turn) → ((m : ℕ) → w .bits ≡ suc m → Says m t) → After (met w here-row t)
+  -- at its next row the walk stays on the whole way
+  meets : (t : Turn) → ((m : ℕ) → w .bits ≡ suc m → Says m t) → After (met w here-row t)
   unfolding met
   meets t says = by-row (holds w here-row) refl
     where
@@ -289,37 +289,33 @@ module _ (rows : ℕ → Row) (f : Rule) (width : ℕ) (whole : Way) (w : Walk) 
       by-row false h = ends AtDamage (rw (is-damaged rows (w .count) (w .bits) (w .path) (w .low) (w .row) (judged-is false h)) (at-damage f (w .bits))) tt
       by-row true h = by-bits (eqb (w .bits) 0) refl h
 
-pub is-on : (stage : Stage) → isOn stage ≡ true → stage ≡ On
+is-on : (stage : Stage) → isOn stage ≡ true → stage ≡ On
 is-on On h = refl
 is-on AtNone h = sym (cc)
 is-on AtRow h = sym (cc)
 is-on AtDamage h = sym (cc)
 
-module _ (rows : ℕ → Row) (f : Rule) (width count : ℕ) (tree : Tree) (w : Walk) (on : isOn (w .stage) ≡ true) (k : Walking rows f width count tree w) where
-  -- the row that a walk wants is in use
-  pub in-use : w .row < count
-  in-use = rw (← k .same-count) (subst (Placed rows w) (is-on (w .stage) on) (k .placed))
-
-  -- a walk that is on its way is so after the row that it wants, if it makes the turn that its rule says
+module _ (rows : ℕ → Row) (f : Rule) (width count : ℕ) (whole : Way) (w : Walk) (on : isOn (w .stage) ≡ true) (k : OnWay rows f width count whole w) where
+  -- past its next row a walk is still on its way, if it makes the turn that its rule says
   pub keeps : (t : Turn)
       → ((m : ℕ) → w .bits ≡ suc m
       → f m (entryOf (rows (w .row))) (below rows count (suc m) (w .row) left) (below rows count (suc m) (w .row) right) ≡ t)
-      → Walking rows f width count tree (met w (rows (w .row)) t)
+      → OnWay rows f width count whole (met w (rows (w .row)) t)
   keeps t says =
       let stage : w .stage ≡ On = is-on (w .stage) on in
-      let a : AfterRow rows f width (way f width tree) w (met w (rows (w .row)) t)
-      = meets rows f width (way f width tree) w (subst (Placed rows w) stage (k .placed)) (k .fits) (k .memory)
-      (subst (λ (s : Stage). Goes rows width (way f width tree) w (to-come rows f w s)) stage (k .goes)) t
+      let a : AfterRow rows f width whole w (met w (rows (w .row)) t)
+      = meets rows f width whole w (subst (Placed rows w) stage (k .placed)) (k .fits) (k .memory)
+      (subst (λ (s : Stage). Ahead rows width whole w (to-come rows f w s)) stage (k .ahead)) t
       (λ m e. rw (k .same-count) (says m e)) in
-      record { goes = a .goes; placed = a .placed; memory = a .memory; fits = a .within; same-count = a .same-count ∙ k .same-count }
+      record { ahead = a .ahead; placed = a .placed; memory = a .memory; fits = a .within; same-count = a .same-count ∙ k .same-count }
 
--- a walk that has not moved yet is on its way, if all of the way is still to come
-module _ (rows : ℕ → Row) (f : Rule) (tree : Tree) (w : Walk) (fresh : w .any ≡ false) (all : toCome rows f w ≡ way f (w .bits) tree)
+-- a walk that has not moved yet is on its way, if the whole way is ahead
+module _ (rows : ℕ → Row) (f : Rule) (tree : Tree) (w : Walk) (fresh : w .has-aside ≡ false) (all : toCome rows f w ≡ way f (w .bits) tree)
     (p : Placed rows w (w .stage)) where
   pub begins : Walking rows f (w .bits) (w .count) tree w
   begins =
       record {
-        goes =
+        ahead =
             record {
               end = ap (λ (v : Way). v .end) all;
               bits = ap (λ (v : Way). v .bits) all;
@@ -331,7 +327,7 @@ module _ (rows : ℕ → Row) (f : Rule) (tree : Tree) (w : Walk) (fresh : w .an
         memory =
             record {
               above-used = λ less. absurd (lt-irrefl (w .bits) less);
-              aside-used = λ any. absurd (true≢false (sym any ∙ fresh));
+              aside-used = λ has-aside. absurd (true≢false (sym has-aside ∙ fresh));
             };
         fits = le-refl (w .bits);
         same-count = refl;

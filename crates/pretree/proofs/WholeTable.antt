@@ -1,4 +1,4 @@
--- Laws of the calls on the whole table: what the root shows, when the table is sound, and what `list` leaves in the buffer.
+-- Laws for `audit` and `list`: what the root shows, when the table is sound, and what `list` leaves in the buffer.
 use Prim.Native.Nat.{ℕ, zero, suc, _+_, _*_, _-_, _/_, _^_, _≤_, _<_}
 use mathlib.Core.Path.{_≡_, refl, sym, ap, ap₂, _∙_}
 use mathlib.Core.Bool.{Bool, true, false, _&&_, true≢false}
@@ -33,7 +33,7 @@ use Rattle.pretree.proofs.Checks.{right-header}
 use Rattle.pretree.proofs.Unfolding.{is-row, is-damaged}
 use Rattle.pretree.proofs.Parts.{row-found}
 
--- ---- a part without damage stays the same where more rows are in use
+-- ---- a part without damage stays the same if more rows are in use
 
 module _ (rows : ℕ → Rows.Row) (n more : ℕ) (fewer : n ≤ more) where
   judged-wider : (m path low i : ℕ) → judged n m path low i (rows i) ≡ true → judged more m path low i (rows i) ≡ true
@@ -74,12 +74,12 @@ module _ (rows : ℕ → Rows.Row) (n more : ℕ) (fewer : n ≤ more) where
       let low : ℕ = suc (rows i .entry .key) in
       linked-wider (unfolded rows n m path low) (unfolded rows more m path low) (unfolded-same m (λ j t. below-same m j t) path low) (link (rows i) s) whole
 
-  pub wider : (m i : ℕ) → intact (rowTree rows n m i) ≡ true → rowTree rows more m i ≡ rowTree rows n m i
+  wider : (m i : ℕ) → intact (rowTree rows n m i) ≡ true → rowTree rows more m i ≡ rowTree rows n m i
   wider m i whole = row-same m (below-same m) i whole
 
 -- ---- the root
 
--- a list that is written from the front on leaves the rest
+-- a list that is written from place 0 on leaves the rest of the buffer
 written-first : (xs buffer : List ℕ) (n : ℕ) → length xs ≡ n → n ≤ length buffer → sets buffer 0 xs ≡ xs ++ drop n buffer
 written-first xs buffer n e h = rw (zero-add, e) at (sets-eq xs buffer 0 (omega arith))
 
@@ -93,7 +93,7 @@ module _ (h : Header) (table : List ℕ) where
   none-sound empty = rw (none-shown empty, empty)
 
   -- the tree of the root's row, where n rows are in use
-  abbrev pub rootTree : ℕ → Tree
+  abbrev rootTree : ℕ → Tree
   rootTree n = rowTree (rowAt table) n (bitsLeft (2 ^ h .width - 1)) 0
 
   module _ (right-there : wrong-header h table ≡ false) (some : h .count ≡ 0 → ⊥) where
@@ -110,7 +110,7 @@ module _ (h : Header) (table : List ℕ) where
         let shows : shown h table ≡ damaged = rw e at (row-found (rowAt table) (h .count) (rootPlace (h .width)) (started h) stands (shown h table) root-shown) in
         rw shows
 
-    -- the root is no damage: it shows its row
+    -- an undamaged root shows its row
     module _ (whole : rowEnd (rowAt table) (h .count) (rootPlace (h .width)) ≡ Damage → ⊥) where
       root-found : (shown h table ≡ rootTree (h .count)) × Standing (rowAt table) (h .count) (2 ^ h .width - 1) 0
       root-found = go (ltb 0 (h .count) && judges (rootPlace (h .width)) (rowAt table 0)) refl
@@ -172,7 +172,7 @@ module _ (h : Header) (table : List ℕ) where
             let all : size (rootTree (capacity table)) ≡ h .count = sym (ap size all-shown) ∙ sound-parts .1 in
             record { whole = sym (ap intact all-shown) ∙ sound-parts .0; room = omega arith }
 
-        -- its listing is `count` words, so the rest of the buffer is what stands after them
+        -- the listing has `count` words, so the rest of the buffer is what comes after them
         sound-listed : sets buffer 0 (listing (rootTree (capacity table))) ≡ listing (shown h table) ++ drop (h .count) buffer
         sound-listed =
             ap (λ (t : Tree). sets buffer 0 (listing t)) (sym all-shown)

@@ -1,4 +1,4 @@
--- Where a row's words stand in a table.
+-- Where a row's words are in a table.
 use Prim.Native.Nat.{ℕ, zero, suc, _+_, _*_, _/_, _≤_, _<_}
 use mathlib.Core.Path.{_≡_, refl, ap}
 use mathlib.Core.List.{List}
@@ -8,7 +8,7 @@ use lib.ListN.{length, getD}
 use Rattle.ordered.specs.Word.{sideOf, bitOf}
 use Rattle.pretree.specs.Table.{rowWords, capacity, rowAt, link}
 
--- a bit is that of the side to which it goes
+-- a bit is the bit of the side that it says
 pub bit-of-side : (b : ℕ) → b < 2 → bitOf (sideOf b) ≡ b
 bit-of-side zero h = refl
 bit-of-side (suc b) h = omega arith

@@ -24,7 +24,7 @@ unfoldable pub taking : List Take → List ℕ → List ℕ
 taking [] table = table
 taking (t ∷ ts) table = taking ts (withEntry (t .at) (t .entry) table)
 
--- row i is linked where a way passed last; with no such row it is the root
+-- row i is linked at the last step of a way; if there is no step, row i is the root and no link is set
 abbrev pub hooking : Perhaps Step → ℕ → List ℕ → List ℕ
 hooking no-such i table = table
 hooking (such s) i table = withLink (s .at) (s .turn) i table

@@ -1,5 +1,5 @@
 -- The eleven calls as one type, and what each answers and leaves: the reply, the table and the buffer, for every header, table and buffer.
--- What is said of all calls is said over this one function: the demands, and the line language.
+-- The demands and the line language speak about all calls by this one function.
 use Prim.Native.Nat.{ℕ}
 use mathlib.Core.List.{List}
 use Rattle.pretree.specs.declared.Header.{Header}
@@ -11,7 +11,7 @@ use Rattle.pretree.specs.Add.{entryFor, Outcome, addOutcome}
 use Rattle.pretree.specs.Del.{delOutcome}
 use Rattle.pretree.specs.Whole.{newReply, newTable, auditReply, listReply, listBuffer}
 
--- what a call answers, and what it leaves of what was lent
+-- what a call answers, and what the lent table and buffer are after it
 pub record After : Type 0 where
   pub reply : Reply
   pub table : List ℕ

@@ -27,7 +27,7 @@ use Rattle.pretree.specs.Del.{secondWay, astray}
 abbrev pub keyIn : List ℕ → ℕ → ℕ
 keyIn table i = rowAt table i .entry .key
 
--- the way of k ended at k's row: a walk that has gone it stands at that place, below that row
+-- the way of k ended at k's row: the walk that has gone this way is at the place `at`, below `row-above`
 pub record RowOfKey (h : Header) (table : List ℕ) (k : ℕ) (at : Place) (row-above : ℕ) : Type 0 where
   pub walk : Walk
   pub walked : Walked (rowAt table) (seeking k k) (h .width) (h .count) (shown h table) walk
@@ -35,39 +35,40 @@ pub record RowOfKey (h : Header) (table : List ℕ) (k : ℕ) (at : Place) (row-
   pub stands : Stands at walk
   pub above : row-above ≡ walk .above
 
--- where a place with `bits` left is linked, if the root has `width`: below the row above, on the side that the last bit of the path says
+-- Where a place with `bits` bits left is linked: at the row above, on the side that the last bit of the path says. The root, with `width` bits
+-- left, is linked nowhere.
 abbrev pub hookOf : Place → ℕ → ℕ → ℕ → Hook
 hookOf at bits width above = record { linked = ltb bits width; above = above; side = at .path / 2 ^ bits % 2 }
 
 abbrev pub hookedAt : Hook → ℕ → List ℕ → List ℕ
 hookedAt k i table = hooked (k .linked) (k .above) (sideOf (k .side)) i table
 
--- the hook is that of a step
+-- a link set at the hook is a link set where the step p was made
 abbrev pub SameHook : Perhaps Step → Hook → Type 0
 SameHook p k = (i : ℕ) (table : List ℕ) → hooking p i table ≡ hookedAt k i table
 
--- and its row is one of the first n
-abbrev pub Hangs : ℕ → Hook → Type 0
-Hangs n k = (k .linked ≡ true → k .above < n) × (k .side < 2)
+-- the hook's row is one of the first n, if there is one, and its side is 0 or 1
+abbrev pub HookInTable : ℕ → Hook → Type 0
+HookInTable n k = (k .linked ≡ true → k .above < n) × (k .side < 2)
 
 -- "down by left link, else right link"
-abbrev pub beneath : Row → ℕ
-beneath r = if not (eqb (r .left) 0) then r .left else r .right
+abbrev pub row-below : Row → ℕ
+row-below r = if not (eqb (r .left) 0) then r .left else r .right
 
--- "each row taking the key below": s rows from row i down
+-- "each row taking the key below": the first s rows of the stretch from row i
 unfoldable pub raising : (ℕ → Row) → ℕ → ℕ → List Take
 raising rows zero i = []
 raising rows (suc s) i =
-    let below : ℕ = beneath (rows i) in
+    let below : ℕ = row-below (rows i) in
     record { at = i; entry = entryOf (rows below) } ∷ raising rows s below
 
--- they are among the first n, and their keys rise
+-- the rows of that stretch are among the first n, and their keys increase
 unfoldable pub Rises : (ℕ → Row) → ℕ → ℕ → ℕ → Type 0
 Rises rows n zero i = i < n
 Rises rows n (suc s) i =
-    (i < n) × (rows i .entry .key < rows (beneath (rows i)) .entry .key) × Rises rows n s (beneath (rows i))
+    (i < n) × (rows i .entry .key < rows (row-below (rows i)) .entry .key) × Rises rows n s (row-below (rows i))
 
--- the stretch of an erase, as it was judged
+-- `hole` describes the stretch of the erase e, which was judged to be without damage
 pub record JudgedStretch (e : Erasing) (table : List ℕ) (hole : Hole) : Type 0 where
   pub whole : broken (e .rows-read) ≡ false
   pub present : e .present ≡ true
@@ -76,7 +77,7 @@ pub record JudgedStretch (e : Erasing) (table : List ℕ) (hole : Hole) : Type 0
   pub row : e .hole ≡ hole .row
   pub hook : SameHook (e .hook) (hole .hook)
 
--- and the move of the last row into the hole
+-- m describes the move of the last row into the hole, and says whether the second way is broken or astray
 pub record JudgedMove (h : Header) (table : List ℕ) (hole : ℕ) (m : Move) : Type 0 where
   pub needed : m .needed ≡ not (eqb hole (pred (h .count)))
   pub astray : m .astray ≡ (m .needed && (broken (secondWay h table) || astray h table (secondWay h table)))
@@ -88,13 +89,13 @@ abbrev pub noLink : Bool → Bool → Move
 noLink needed astray =
     record { needed = needed; astray = astray; hook = record { linked = false; above = 0; side = 0 }; rows = 0 }
 
--- all that will be written is in the table
+-- all rows that will be written are in the table
 pub record Within (table : List ℕ) (hole : Hole) : Type 0 where
   pub rises : Rises (rowAt table) (capacity table) (hole .steps) (hole .from)
-  pub hangs : Hangs (capacity table) (hole .hook)
+  pub hook-in-table : HookInTable (capacity table) (hole .hook)
   pub used : hole .row < capacity table
 
--- the last row, in the hole
+-- the last row moved into the hole and linked there, if a move is needed
 unfoldable pub filled : ℕ → ℕ → Move → List ℕ → List ℕ
 filled hole last m table = if m .needed then hookedAt (m .hook) hole (withRow hole (rowAt table last) table) else table
 

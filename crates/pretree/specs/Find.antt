@@ -1,4 +1,4 @@
--- The reading calls on every header, table and word: `has`, `next`, `prev`, `first`, `last`, `gap`. The table is what it was.
+-- The replies of the reading calls on every header, table and word: `has`, `next`, `prev`, `first`, `last`, `gap`. They leave the table as it is.
 -- Document 01: "Order: 9, 1, 2, 3, 4, then 7 or 8".
 use Prim.Native.Nat.{ℕ}
 use mathlib.Core.Bool.{Bool, true, false}
@@ -12,7 +12,7 @@ use Rattle.pretree.specs.declared.Reply.{Reply}
 use Rattle.pretree.specs.Unfold.{shown}
 use Rattle.pretree.specs.Reply.{wrong-header, too-wide, refused, answered}
 
--- how what was found is answered: 0, by a case of its own, or 8
+-- the answer: 0 if something was found, by the case of `Answer` that the call uses, else 8
 abbrev pub saying : {A : Type 0} → (A → Answer) → Perhaps A → Answer
 saying answer (such x) = answer x
 saying answer no-such = NoSuchWord
@@ -23,7 +23,7 @@ serial f = Serial (f .entry .serial)
 abbrev pub word : Found → Answer
 word f = Word (wordIn f)
 
--- a call that reads, with the checks that document 01 puts before it
+-- the reply of a reading call: first the checks, in document 01's order
 abbrev pub read-reply : {A : Type 0} → Header → List ℕ → Bool → (A → Answer) → Reading A → Reply
 read-reply h table wide answer r =
     if wrong-header h table then refused h WrongHeader

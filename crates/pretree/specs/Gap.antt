@@ -8,7 +8,7 @@ use Rattle.pretree.specs.declared.gap.Neighbour.{Neighbour}
 use Rattle.pretree.specs.declared.gap.Neighbour.the-variants.{At, Nowhere, Unknown}
 use Rattle.pretree.specs.Reply.{refused, answered}
 
--- a word, that there is none, or damage
+-- what an answer says of the neighbour: its word, that there is none, or damage
 abbrev pub neighbour : Answer → Neighbour
 neighbour (Word x) = At x
 neighbour NoSuchWord = Nowhere
@@ -23,13 +23,13 @@ neighbour Full = Unknown
 neighbour ShortBuffer = Unknown
 neighbour AlreadyThere = Unknown
 
--- at a distance from the word below, with what is above
+-- the reply where the nearest word below is at the distance `lower`
 abbrev pub from-below : Header → ℕ → ℕ → ℕ → Neighbour → Reply
 from-below h k lower n (At x) = answered h (Distance (min lower (x - k))) n
 from-below h k lower n Nowhere = answered h (Distance lower) n
 from-below h k lower n Unknown = refused h Damage
 
--- with nothing below
+-- the reply where no word is below
 abbrev pub from-above : Header → ℕ → ℕ → Neighbour → Reply
 from-above h k n (At x) = answered h (Distance (x - k)) n
 from-above h k n Nowhere = answered h NoSuchWord n

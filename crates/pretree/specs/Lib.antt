@@ -9,15 +9,18 @@ pub mod Add
 pub mod Del
 pub mod Whole
 pub mod Call
-pub mod Part
+-- How the proofs follow a leg: the steps of a walk, and the walk that goes with a leg or a seek.
 pub mod Walk
 pub mod Resume
 pub mod Leg
 pub mod Seek
+-- The steps of the code, for the contracts of its inner functions: whole.rt, add.rt, find.rt, next.rt, gap.rt, prev.rt, erase.rt.
+pub mod Part
 pub mod Push
 pub mod Found
 pub mod Next
 pub mod Gap
 pub mod Prev
 pub mod Erased
+-- Examples.
 pub mod Starred

@@ -1,4 +1,4 @@
--- `next` by the numbers of `src/next.rt`: where the next greater word stands once the way of k has ended, and the reply.
+-- The steps of `src/next.rt`: the place of the next greater word once the way of k has ended, and the reply.
 use Prim.Native.Nat.{ℕ, suc, _+_, _-_}
 use lib.Bits.{bitAnd, bitOr}
 use lib.Dec.{ltb, eqb}
@@ -18,17 +18,17 @@ use Rattle.pretree.specs.Leg.{linkEnd}
 use Rattle.pretree.specs.Seek.{rowOf, bitsLeft, turn, stepped}
 use Rattle.pretree.specs.Found.{wordBy}
 
--- at the row that the seek wants, if a link led there, else at the right link that it left aside
+-- the seek's next row, if a link led there; else the right link that it remembers
 abbrev pub nextPlace : Seek → ℕ → Place
 nextPlace s k =
     if eqb (rowOf s) 0 then record { row = s .aside; mask = s .span; path = bitOr (k - bitAnd k (s .span)) (suc (s .span)); low = suc k }
     else record { row = rowOf s; mask = s .mask; path = k - s .tail; low = suc k }
 
--- the word there, after so many rows
+-- the reply with the word there; n rows were read before
 abbrev pub nextFrom : Header → (ℕ → Rows.Row) → ℕ → Seek → ℕ → Reply
 nextFrom h rows k s n = wordBy h n (linkEnd rows (h .count) (nextPlace s k))
 
--- `next` of k where the way of k ended so: past a row that is equal to k the seek goes one row further down
+-- `next` of k, by the end of the way of k. Past a row with the key k the seek goes one row further down.
 abbrev pub nextAt : Header → (ℕ → Rows.Row) → ℕ → Seek → End → Reply
 nextAt h rows k s Ends.the-variants.Damage = refused h Damage
 nextAt h rows k s Ends.the-variants.None = nextFrom h rows k s (h .width - bitsLeft (s .mask))

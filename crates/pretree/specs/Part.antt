@@ -1,4 +1,4 @@
--- The parts of rows, as `src/whole.rt` goes through them: what a row and a link show, what counting their rows gives, and when they can be listed.
+-- The parts of rows, as `src/whole.rt` reads them: what a row and a link show, what counting their rows gives, and when they can be listed.
 use Prim.Native.Nat.{ℕ, zero, suc, _+_, _-_, _/_, _^_, _≤_, _<_}
 use mathlib.Core.Path.{_≡_}
 use mathlib.Core.Bool.{Bool, true}
@@ -16,15 +16,15 @@ use Rattle.pretree.specs.Walk.{Walk, below}
 use Rattle.pretree.specs.Leg.{Stands}
 use Rattle.pretree.specs.Seek.{bitsLeft}
 
--- where a row that is no damage stands, as its key shows; its number and the least key there are not needed below it
+-- the place of an undamaged row, from its key. Its number and its least key are not needed below it.
 abbrev pub ofPlace : Row → ℕ → Place
 ofPlace r mask = record { row = 0; mask = mask; path = r .entry .key - bitAnd (r .entry .key) mask; low = 0 }
 
--- what row i shows, if it is no damage and m bits are left there
+-- what row i shows, if it is undamaged and m bits are left there
 abbrev pub rowTree : (ℕ → Row) → ℕ → ℕ → ℕ → Tree
 rowTree rows n m i = row i (entryOf (rows i)) (below rows n m i left) (below rows n m i right)
 
--- what a link shows that leads to such a row
+-- what a link to such a row shows
 abbrev pub linkTree : (ℕ → Row) → ℕ → ℕ → ℕ → Tree
 linkTree rows n m i = linked (rowTree rows n m) i
 
@@ -32,16 +32,16 @@ linkTree rows n m i = linked (rowTree rows n m) i
 abbrev pub placeTree : (ℕ → Row) → ℕ → Place → Tree
 placeTree rows n p = linked (unfolded rows n (bitsLeft (p .mask)) (p .path / suc (p .mask)) (p .low)) (p .row)
 
--- one more than the rows of a part, if it has no damage: as many as it has empty links
+-- the number of empty links of a part, which is one more than its rows; 0 if it has damage
 unfoldable pub counted : Tree → ℕ
 counted t = if intact t then suc (size t) else 0
 
--- a place that is one
-pub record StandsSome (p : Place) : Type 0 where
+-- some walk is at the place
+pub record SomeWalkStands (p : Place) : Type 0 where
   pub walk : Walk
   pub stands : Stands p walk
 
--- row i is one of the first n, and no row at depth W with a link
+-- row i is one of the first n, and has no link if it is at depth W; the mask is that of the bits left there
 pub record Standing (rows : ℕ → Row) (n mask i : ℕ) : Type 0 where
   pub bits : ℕ
   pub few : bits ≤ 32

@@ -1,4 +1,4 @@
--- `prev` by the numbers of `src/prev.rt`: the rows of the way of k, and where the left part of the last row that it passed stands.
+-- The steps of `src/prev.rt`: the number of rows of the way of k, and the place of the left part of the last row that it passed.
 use Prim.Native.Nat.{ℕ, suc, _+_, _*_, _-_, _/_, _%_, _^_}
 use lib.Bits.{bitAnd}
 use lib.Dec.{eqb}
@@ -8,7 +8,7 @@ use Rattle.pretree.specs.declared.leg.End.{End}
 use Rattle.pretree.specs.declared.leg.End.the-variants.{None, Row, Damage}
 use Rattle.pretree.specs.declared.leg.Place.{Place}
 
--- the rows that a way reads: those that it passed, and the row at its end
+-- the number of rows that a way reads: those that it passed, and the row at its end
 abbrev pub rowsTo : End → ℕ → ℕ
 rowsTo None passed = passed
 rowsTo (Row r) passed = passed + 1
@@ -18,7 +18,7 @@ rowsTo Damage passed = passed + 1
 abbrev pub leftIfRight : ℕ → ℕ → Rows.Row → ℕ
 leftIfRight k m r = if eqb (k / 2 ^ m % 2) 0 then 0 else r .left
 
--- where that link leads, with as many ones as bits are left there
+-- the place to which that link leads; the mask is that of the bits left there
 abbrev pub leftPlace : Rows.Row → ℕ → Place
 leftPlace r mask =
     record {

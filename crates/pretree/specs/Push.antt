@@ -1,5 +1,4 @@
--- What the code of `add` does, by its own numbers: the push from a row with so many bits left down to where `end` are left, the hook at
--- which the new row is linked, and the outcome.
+-- The steps of `src/add.rt`: the push down to where `end` bits are left, the link to the new row, and the outcome.
 -- Document 01: "that row takes k and its old key is pushed down by its own bits, taking each next row's place in turn".
 use Prim.Native.Nat.{ℕ, zero, suc, _+_, _-_, _/_, _%_, _^_, _≤_, _<_}
 use mathlib.Core.Path.{_≡_}
@@ -19,11 +18,11 @@ use Rattle.pretree.specs.Table.{capacity, rowAt, fromCode, link, withRow
 use Rattle.pretree.specs.Unfold.{shown}
 use Rattle.pretree.specs.Reply.{refused, answered}
 use Rattle.pretree.specs.Walk.{Walk, seeking, Walked}
-use Rattle.pretree.specs.Leg.{EndsSo, Stands}
+use Rattle.pretree.specs.Leg.{EndsAs, Stands}
 use Rattle.pretree.specs.Seek.{bitsLeft}
 use Rattle.pretree.specs.Add.{taking, Outcome}
 
--- the row to which its key is pushed from row i, with m bits left below
+-- the row to which the key of row i is pushed, with m bits left below row i
 abbrev pub onward : (ℕ → Rows.Row) → ℕ → ℕ → ℕ
 onward rows m i = link (rows i) (side m (rows i .entry .key))
 
@@ -33,50 +32,50 @@ takes-from rows end zero i e = []
 takes-from rows end (suc n) i e =
     record { at = i; entry = fromCode e } ∷ takes-from rows end n (onward rows (end + n) i) (rows i .entry)
 
--- and the entry that is left over
+-- the entry that is left over after these rows
 unfoldable pub left-from : (ℕ → Rows.Row) → ℕ → ℕ → ℕ → Entry → Entry
 left-from rows end zero i e = e
 left-from rows end (suc n) i e = left-from rows end n (onward rows (end + n) i) (rows i .entry)
 
--- those rows are below `top`, and their keys rise, from `low` on
+-- the numbers of these rows are below `top`, and their keys increase, from `low` on
 unfoldable pub Rising : (ℕ → Rows.Row) → ℕ → ℕ → ℕ → ℕ → ℕ → Type 0
 Rising rows top end zero i low = Unit {0}
 Rising rows top end (suc n) i low =
     (i < top) × (low ≤ rows i .entry .key) × Rising rows top end n (onward rows (end + n) i) (suc (rows i .entry .key))
 
--- the bits left where a leg is, and the side of the row above on which that place is linked
+-- the bits left where a leg is; and the side of the row above on which that place is linked
 abbrev pub endBits : Leg → ℕ
 endBits l = bitsLeft (l .at .mask)
 
 abbrev pub endSide : Leg → Side
 endSide l = sideOf (l .at .path / 2 ^ endBits l % 2)
 
--- the push of the entry from a row with so many bits left, down to where `end` are left; and the new row, linked on a side of the row above
+-- the table after the push of the entry e from row `from`, where `bits` bits are left, and after the new row was linked on side s of the row `above`
 unfoldable pub grownAt : Header → List ℕ → Entry → ℕ → ℕ → ℕ → ℕ → Side → List ℕ
 grownAt h table e from bits end above s =
     let n : ℕ = bits - end in
     withRow (h .count) (record { entry = left-from (rowAt table) end n from e; left = 0; right = 0 })
     (hooked (ltb end (h .width)) above s (h .count) (taking (takes-from (rowAt table) end n from e) table))
 
--- what those writes ask
+-- what those writes require
 pub record Growable (h : Header) (table : List ℕ) (from bits end above : ℕ) : Type 0 where
   pub within : bits ≤ h .width
   pub fits : end ≤ bits
   pub rising : Rising (rowAt table) (capacity table) end (bits - end) from 0
   pub above-used : end < h .width → above < capacity table
 
--- the outcome where the word is not there and nothing was damaged
+-- the outcome where the word is absent and no damage was met
 unfoldable pub grownOutcome : Header → List ℕ → Entry → ℕ → ℕ → ℕ → ℕ → Side → Outcome
 grownOutcome h table e from bits end above s =
     let more : Header = record { width = h .width; count = suc (h .count) } in
     if eqb (h .count) (capacity table) then record { reply = refused h Full; table = table }
     else record { reply = answered more Done (h .width - end); table = grownAt h table e from bits end above s }
 
--- the way of the word k ended at the row r, which stands at that place and has another key
+-- the way of the word k ended at the row r, which is at this place and has another key
 pub record Displaces (h : Header) (table : List ℕ) (k : ℕ) (at : Place) (r : Rows.Row) : Type 0 where
   pub walk : Walk
   pub walked : Walked (rowAt table) (seeking k k) (h .width) (h .count) (shown h table) walk
   pub stands : Stands at walk
   pub path : walk .path ≡ k / 2 ^ walk .bits
-  pub ends : EndsSo (rowAt table) walk (Row r)
+  pub ends : EndsAs (rowAt table) walk (Row r)
   pub another : r .entry .key ≡ k → ⊥

@@ -28,6 +28,6 @@ too-wide h k = leb (2 ^ h .width) k
 abbrev pub refused : Header → Answer → Reply
 refused h a = record { header = h; answer = a; rows = 0; moved = 0 }
 
--- an answer that leaves the set as it was, with its count of rows
+-- an answer that is no refusal, with the rows read
 abbrev pub answered : Header → Answer → ℕ → Reply
 answered h a n = record { header = h; answer = a; rows = n; moved = 0 }

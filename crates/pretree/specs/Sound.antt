@@ -1,4 +1,4 @@
--- When a table is sound, in document 01's words; and the test of it that `audit` makes.
+-- When a table is sound, in document 01's words; and the test that `audit` makes.
 use Prim.Native.Nat.{ℕ, zero, suc, _+_, _*_, _-_, _/_, _^_, _<_, _≤_}
 use mathlib.Core.Path.{_≡_}
 use mathlib.Core.Bool.{Bool, true, false, _&&_}
@@ -24,7 +24,7 @@ abbrev pub met-by : (ℕ → List Met) → ℕ → List Met
 met-by from zero = []
 met-by from (suc i) = from (suc i)
 
--- "the rows met from row 0 in the order row, left part, right part", so many levels deep
+-- "the rows met from row 0 in the order row, left part, right part", for this number of levels
 unfoldable pub met : (ℕ → Row) → ℕ → ℕ → ℕ → ℕ → List Met
 met rows zero depth path i = []
 met rows (suc levels) depth path i =
@@ -52,20 +52,19 @@ pub record InPlace (width : ℕ) (x : Met) : Type 0 where
   pub shallow : x .depth ≤ width
 
 -- "the rows met from row 0 [..] are the rows 0 to count−1, each once, their keys strictly increase in that order".
--- One level more than is allowed is looked at, so that a row that is too deep is met.
 pub record SoundRows (width count : ℕ) (xs : List Met) : Type 0 where
   pub each-once : (i : ℕ) → times i xs ≡ (if ltb i count then 1 else 0)
   pub increase : Increasing (keysOf xs)
   pub in-place : Each (InPlace width) xs
 
--- "A count of 0 is sound."
+-- "A count of 0 is sound." Levels 0 to W are allowed. One more is looked at, so that a row that is too deep is met.
 abbrev pub rowsMet : Header → List ℕ → List Met
 rowsMet h table = met (rowAt table) (if eqb (h .count) 0 then 0 else h .width + 2) 0 0 0
 
 unfoldable pub Sound : Header → List ℕ → Type 0
 Sound h table = SoundRows (h .width) (h .count) (rowsMet h table)
 
--- the test: the tree that is shown has no damage, and as many rows as are in use. (In a tree without damage the keys rise in the order row,
--- left part, right part, so no row stands in it twice.)
+-- The test: the tree that is shown has no damage, and as many rows as are in use. In a tree without damage the keys increase in the order row,
+-- left part, right part, so no row is in it twice.
 unfoldable pub isSound : Header → List ℕ → Bool
 isSound h table = intact (shown h table) && eqb (size (shown h table)) (h .count)

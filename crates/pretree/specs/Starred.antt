@@ -1,6 +1,6 @@
--- The starred examples of document 01, "Bench examples at the edges", about the definitions: the replies of the calls on the tables of
--- A, B and C, and their trees, as one list. That they all agree, and that the tables are sound and are the trees of their sets, is shown
--- in proofs/Starred.antt.
+-- The starred examples of document 01, "Bench examples at the edges": the replies of the calls on the tables of A, B and C, and their trees, as
+-- one list. proofs/Starred.antt proves that all of them hold for the definitions, that the tables are sound, and that they are the trees of
+-- their sets.
 use Prim.Native.Nat.{ℕ, _+_}
 use mathlib.Core.List.{List, [], _∷_}
 use Rattle.ordered.specs.Example.{Example, _is_}
@@ -13,11 +13,11 @@ use Rattle.pretree.specs.Unfold.{shown}
 use Rattle.pretree.specs.Answer.{numberOf, keyOf, serialOf}
 use Rattle.pretree.specs.Find.{hasReply, nextReply, prevReply, lastReply, gapReply}
 
--- every word of the examples has a serial of its own
+-- each word of the examples has a different serial
 abbrev pub entry : ℕ → Entry
 entry k = record { key = k; serial = k + 100 }
 
--- a set in a table
+-- a set, with the header and the table that hold it
 pub record Held : Type 0 where
   pub header : Header
   pub table : List ℕ

@@ -1,4 +1,4 @@
--- A lent table is a list of words, seen as rows.
+-- A lent table is a list of table words. This file reads and writes it by rows.
 -- Document 02 §1: "Each row gets a fourth word, the serial [..] A row is then four words, capacity the length divided by 4, at most 65,535". The
 -- first three are document 01's: "key, left link, right link".
 use Prim.Native.Nat.{ℕ, _+_, _*_, _/_, min}
@@ -26,7 +26,7 @@ rowAt table i =
       right = getD table (rowWords * i + 2) 0;
     }
 
--- the entry that a struct of the code holds, the struct that holds an entry, and the entry of a row
+-- the entry from the code's struct, the code's struct from an entry, and the entry of a row
 abbrev pub fromCode : Code.Entry → Entry
 fromCode e = record { key = e .key; serial = e .serial }
 
@@ -40,7 +40,7 @@ abbrev pub link : Row → Side → ℕ
 link r left = r .left
 link r right = r .right
 
--- the table with another entry, another serial, another link, another row at row i
+-- the table with another serial, another entry, another link or another row at row i
 unfoldable pub withSerial : ℕ → ℕ → List ℕ → List ℕ
 withSerial i serial table = set table (rowWords * i + 3) serial
 
@@ -50,7 +50,7 @@ withEntry i e table = withSerial i (e .serial) (set table (rowWords * i) (e .key
 unfoldable pub withLink : ℕ → Side → ℕ → List ℕ → List ℕ
 withLink i s j table = set table (rowWords * i + 1 + bitOf s) j
 
--- another link, if there is such a row
+-- another link, if the condition holds; else the table as it is
 abbrev pub hooked : Bool → ℕ → Side → ℕ → List ℕ → List ℕ
 hooked true i s j table = withLink i s j table
 hooked false i s j table = table

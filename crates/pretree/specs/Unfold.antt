@@ -1,4 +1,4 @@
--- What a table shows: its rows unfolded from the root into a tree, with damage where a way that came there would meet it.
+-- What a table shows: its rows unfolded from the root into a tree, with damage at each place where a way would meet it.
 use Prim.Native.Nat.{ℕ, zero, suc, _+_, _*_, _/_, _^_}
 use mathlib.Core.Bool.{Bool, true, false, _&&_}
 use mathlib.Core.List.{List}

@@ -1,6 +1,6 @@
-// `add`: a word is put in its row, and the entries that it displaces are pushed down.
-// Document 01: "All of it is judged before anything is written." The way of the word and then the push are read first; only where nothing is
-// refused any more does a second pass over the push write.
+// `add`: puts a word in its row, and pushes the entries that it displaces further down.
+// Document 01: "All of it is judged before anything is written." The way of the word and the push are read first. If nothing refuses the call, a
+// second pass over the push writes.
 
 use crate::Answer;
 use crate::Entry;
@@ -73,7 +73,7 @@ impl Header {
         }
     }
 
-    // The way of the word ended at that row, whose key is greater: "its old key is pushed down by its own bits".
+    // The way of the word ended at `row`, whose key is greater: "its old key is pushed down by its own bits".
     fn displaced(self, table: &mut [u32], entry: Entry, at: Place, row: Row) -> Reply
         requires header { ⌜ wrong-header self (now table) ≡ false ⌝ }
         requires width { ⌜ too-wide self (entry .key) ≡ false ⌝ }
@@ -93,7 +93,8 @@ impl Header {
         self.grown(table, entry, at.row, bits_of(at.mask), leg)
     }
 
-    // "The new row is row `count`, with both links 0, linked where the way or the push ended": the leg is there. The push began at row `from`.
+    // "The new row is row `count`, with both links 0, linked where the way or the push ended": `leg` is there. The push began at row `from`, where
+    // `bits` bits are left.
     fn grown(self, table: &mut [u32], entry: Entry, from: usize, bits: u32, leg: Leg) -> Reply
         requires header { ⌜ wrong-header self (now table) ≡ false ⌝ }
         requires growable { ⌜ Growable self (now table) from bits (endBits leg) (leg .above) ⌝ }
@@ -129,8 +130,8 @@ impl Header {
     }
 }
 
-// The push from row `from`, written: "taking each next row's place in turn", from so many bits left down to `end`. The result is the
-// entry that is left over.
+// Writes the push: "taking each next row's place in turn", from row `from` with `bits` bits left down to where `end` bits are left. The result is
+// the entry that is left over for the new row.
 fn push(table: &mut [u32], from: usize, bits: u32, end: u32, entry: Entry) -> Entry
     requires bits { ⌜ (end ≤ bits) × (bits ≤ 32) ⌝ }
     requires rows { ⌜ Rising (rowAt (now table)) (capacity (now table)) end (bits - end) from 0 ⌝ }

@@ -1,4 +1,4 @@
-// `del`: a word is taken out of its row, and the row that is left empty is filled by the last one.
+// `del`: removes a word, and moves the last row into the row that becomes free.
 // Document 01: "All of it is judged before anything is written." and "The order is: keys up, unlink, move, set the link."
 
 use crate::Answer;
@@ -28,7 +28,7 @@ ghost use Rattle.pretree.specs.Unfold.{shown};
 ghost use Rattle.pretree.specs.Reply.{wrong-header, too-wide};
 ghost use Rattle.pretree.specs.Add.{taking};
 ghost use Rattle.pretree.specs.Del.{delOutcome};
-ghost use Rattle.pretree.specs.Erased.{keyIn, hookOf, noLink, RowOfKey, JudgedStretch, JudgedMove, Hangs, raising, Rises, Within, filled, emptied};
+ghost use Rattle.pretree.specs.Erased.{keyIn, hookOf, noLink, RowOfKey, JudgedStretch, JudgedMove, HookInTable, raising, Rises, Within, filled, emptied};
 
 // Where the end of a way is linked: the row above it, and the side to which the way turned there. The root is linked nowhere.
 pub struct Hook {
@@ -37,8 +37,8 @@ pub struct Hook {
     pub side: u32,
 }
 
-// The stretch of an erase, judged: from row `from`, which is k's, `steps` rows down to the hole; where the hole is linked; and all the rows
-// read, those of the way of k too.
+// The stretch of an erase, which was judged: from row `from`, the row of k, `steps` rows down to the hole `row`. `hook` is where the hole is
+// linked. `rows` counts all rows read, with those of the way of k.
 pub struct Hole {
     pub from: usize,
     pub steps: u32,
@@ -47,8 +47,8 @@ pub struct Hole {
     pub rows: u32,
 }
 
-// The move of the last row, judged: whether there is one, whether the last row's way goes astray, where the row is linked, and the rows of
-// that way.
+// The move of the last row, which was judged: whether it is needed, whether the second way is astray (it meets damage, or does not end at the last
+// row), where the last row is linked, and the number of rows of the second way.
 pub struct Move {
     pub needed: bool,
     pub astray: bool,
@@ -83,7 +83,7 @@ impl Header {
         }
     }
 
-    // The way of k ended at k's row, at that place below the row `above`. The stretch below is judged.
+    // The way of k ended at k's row, at the place `at` below the row `above`. This judges the stretch that begins there.
     fn erased(self, table: &mut [u32], at: Place, above: usize) -> Reply
         requires header { ⌜ wrong-header self (now table) ≡ false ⌝ }
         requires width { ⌜ too-wide self (keyIn (now table) (at .row)) ≡ false ⌝ }
@@ -137,12 +137,12 @@ impl Header {
     }
 
     // "a second way, the way of the last row's key on the table as it was before the call, gives the link to be set"
-    // The way of a key of 2^W or more goes astray: no row that is no damage has such a key. `sought` asks for a word.
+    // The way of a key of 2^W or more is astray, since no undamaged row has such a key. It is tested first because `sought` requires a word.
     fn move_of(self, table: &[u32], hole: usize) -> Move
         requires header { ⌜ wrong-header self (now table) ≡ false ⌝ }
         requires some { ⌜ 0 < self .count ⌝ }
         ensures judged { λ r. ⌜ JudgedMove self (now (table .entry)) hole r ⌝ }
-        ensures hangs { λ r. ⌜ Hangs (capacity (now (table .entry))) (r .hook) ⌝ }
+        ensures hook { λ r. ⌜ HookInTable (capacity (now (table .entry))) (r .hook) ⌝ }
     {
         let last = (self.count - 1) as usize;
         if hole == last {
@@ -170,7 +170,7 @@ impl Header {
     }
 }
 
-// A move that sets no link: there is none, or it goes astray.
+// A move that sets no link: it is not needed, or it is astray.
 fn no_link(needed: bool, astray: bool) -> Move
     ensures { λ r. ⌜ r ≡ noLink needed astray ⌝ }
 {
@@ -190,7 +190,7 @@ fn no_link(needed: bool, astray: bool) -> Move
 fn shrink(table: &mut [u32], last: usize, hole: Hole, m: Move)
     requires last { ⌜ last < capacity (now table) ⌝ }
     requires hole { ⌜ Within (now table) hole ⌝ }
-    requires hook { ⌜ Hangs (capacity (now table)) (m .hook) ⌝ }
+    requires hook { ⌜ HookInTable (capacity (now table)) (m .hook) ⌝ }
     ensures { λ _. ⌜ now (table .exit) ≡ emptied last hole m (now (table .entry)) ⌝ }
 {
     raise(table, hole.from, hole.steps);
@@ -210,10 +210,10 @@ fn shrink(table: &mut [u32], last: usize, hole: Hole, m: Move)
     put_row(table, last, zeros);
 }
 
-// "that last row is moved into it", and linked there.
+// "that last row is moved into it", and the link to it is set.
 fn fill(table: &mut [u32], hole: usize, last: usize, m: Move)
     requires rows { ⌜ (hole < capacity (now table)) × (last < capacity (now table)) ⌝ }
-    requires hook { ⌜ Hangs (capacity (now table)) (m .hook) ⌝ }
+    requires hook { ⌜ HookInTable (capacity (now table)) (m .hook) ⌝ }
     ensures { λ _. ⌜ now (table .exit) ≡ filled hole last m (now (table .entry)) ⌝ }
 {
     if m.needed {
@@ -240,7 +240,7 @@ fn raise(table: &mut [u32], from: usize, steps: u32)
     }
 }
 
-// Where a place is linked that has `bits` left: nowhere at the root, else below the row `above`.
+// Where a place with `bits` bits left is linked: nowhere at the root, else at the row `above`.
 fn hook_of(at: Place, bits: u32, width: u32, above: usize) -> Hook
     requires narrow { ⌜ bits ≤ 32 ⌝ }
     ensures { λ r. ⌜ r ≡ hookOf at bits width above ⌝ }

@@ -32,7 +32,7 @@ impl Header {
         }
     }
 
-    // An answer that leaves the set as it was.
+    // An answer that is no refusal.
     pub(crate) fn answered(self, answer: Answer, rows: u32) -> Reply
         ensures { λ r. ⌜ r ≡ answered self answer rows ⌝ }
     {

@@ -1,6 +1,6 @@
-// A leg goes down the table from a row by one rule until it ends: at an empty link, at a row or at damage. This file has where a leg is, the
-// one function that judges a row, and the legs that go by the links themselves or push a key by its own bits. seek.rt has the leg that
-// follows a word's bits. A call is a few legs, with arithmetic between them.
+// A leg goes down the table from a row by one rule until it ends: at an empty link, at a row or at damage. A call is a few legs, with arithmetic
+// between them. This file has the types that say where a leg is, the one function that judges a row, and two legs: `down` looks only at the links,
+// and `pushed` follows a key's own bits. seek.rt has the leg that follows a word's bits.
 
 use crate::Header;
 use crate::Row;
@@ -12,7 +12,7 @@ ghost use Rattle.ordered.specs.Way.{down, pushing};
 ghost use Rattle.pretree.specs.Table.{capacity, rowAt};
 ghost use Rattle.pretree.specs.Walk.{stageAt};
 ghost use Rattle.pretree.specs.Seek.{bitsLeft};
-ghost use Rattle.pretree.specs.Leg.{rootPlace, judges, belowPlace, rowEnd, linkEnd, passesDown, firstSide, passesPush, ownSide, stageHere, BegunLeg, LegGone};
+ghost use Rattle.pretree.specs.Leg.{rootPlace, judges, belowPlace, rowEnd, linkEnd, passesDown, firstSide, passesPush, ownSide, stageHere, BegunLeg, LegStopped};
 
 // How a leg ended: at an empty link, at a row, or at damage.
 pub enum End {
@@ -21,8 +21,8 @@ pub enum End {
     Damage,
 }
 
-// Where a row stands: its number, as many ones as bits are left there, the least word with the bits of the path to it, and the least key that
-// is no damage there.
+// Where a row is: its number, a mask with a one for each bit left there, the least word with the bits of the path to it, and the least key that is
+// allowed there.
 pub struct Place {
     pub row: usize,
     pub mask: u32,
@@ -30,13 +30,13 @@ pub struct Place {
     pub low: u64,
 }
 
-// Where a leg is, and the last row that was passed.
+// Where a leg is, and the last row that it passed.
 pub struct Leg {
     pub at: Place,
     pub above: usize,
 }
 
-// As many ones as a word has bits.
+// A mask with a one for each bit of a word.
 pub(crate) fn mask_of(width: u32) -> u32
     requires narrow { ⌜ width ≤ 32 ⌝ }
     ensures { λ r. ⌜ r ≡ 2 ^ width - 1 ⌝ }
@@ -44,7 +44,7 @@ pub(crate) fn mask_of(width: u32) -> u32
     ((1u64 << width) - 1) as u32
 }
 
-// And as many bits as there are ones.
+// The number of bits left: the ones of the mask.
 pub(crate) fn bits_of(mask: u32) -> u32
     ensures { λ r. ⌜ r ≡ bitsLeft mask ⌝ }
 {
@@ -64,7 +64,8 @@ impl Place {
         }
     }
 
-    // The row there is no damage, but for its number. This is the one test of a row, for every leg, `audit` and `list`.
+    // Every damage rule for a row except the rule for its number, which the caller checks. This is the one test of a row for the legs of this file,
+    // `audit` and `list`.
     pub(crate) fn judges(self, row: Row) -> bool
         ensures { λ r. ⌜ r ≡ judges self row ⌝ }
     {
@@ -84,7 +85,7 @@ impl Place {
         row.right == 0
     }
 
-    // Where the link on one side of the row leads: 0 is left, 1 is right.
+    // The place to which the link on one side of the row leads: 0 is left, 1 is right.
     pub(crate) fn below(self, row: Row, side: u32) -> Place
         requires inner { ⌜ 0 < self .mask ⌝ }
         requires room { ⌜ self .path + self .mask < 2 ^ 32 ⌝ }
@@ -110,7 +111,7 @@ impl Place {
     }
 }
 
-// What a leg finds at a row that it wants.
+// What a leg finds at its row: the row or damage.
 pub(crate) fn row_end(table: &[u32], count: usize, at: Place) -> End
     requires room { ⌜ count ≤ capacity (now table) ⌝ }
     ensures { λ r. ⌜ r ≡ rowEnd (rowAt (now (table .entry))) count at ⌝ }
@@ -127,7 +128,7 @@ pub(crate) fn row_end(table: &[u32], count: usize, at: Place) -> End
     }
 }
 
-// What it finds at a link. "A link of 0 means none."
+// What a leg finds at a link. "A link of 0 means none."
 pub(crate) fn link_end(table: &[u32], count: usize, at: Place) -> End
     requires room { ⌜ count ≤ capacity (now table) ⌝ }
     ensures { λ r. ⌜ r ≡ linkEnd (rowAt (now (table .entry))) count at ⌝ }
@@ -138,7 +139,7 @@ pub(crate) fn link_end(table: &[u32], count: usize, at: Place) -> End
     row_end(table, count, at)
 }
 
-// The side on which the row has a link: the one named, if it is there, else the other.
+// The side on which the row has a link: `side` if there is one, else the other.
 fn first_side(row: Row, side: u32) -> u32
     requires side { ⌜ side < 2 ⌝ }
     ensures { λ r. ⌜ r ≡ firstSide side row ⌝ }
@@ -170,7 +171,7 @@ pub(crate) fn down(table: &[u32], count: usize, start: Leg, side: u32) -> Leg
     requires room { ⌜ count ≤ capacity (now table) ⌝ }
     requires side { ⌜ side < 2 ⌝ }
     requires begun { ⌜ BegunLeg count stageHere start ⌝ }
-    ensures { λ r. ⌜ LegGone (rowAt (now (table .entry))) (down (sideOf side)) count stageHere (passesDown (rowAt (now (table .entry))) count) start r ⌝ }
+    ensures { λ r. ⌜ LegStopped (rowAt (now (table .entry))) (down (sideOf side)) count stageHere (passesDown (rowAt (now (table .entry))) count) start r ⌝ }
 {
     let mut leg = start;
     while passes_down(table, count, leg.at) {
@@ -185,7 +186,7 @@ pub(crate) fn down(table: &[u32], count: usize, start: Leg, side: u32) -> Leg
     leg
 }
 
-// The side to which its own bits send a key.
+// The side to which a key's own bits push it: 0 is left, 1 is right.
 pub(crate) fn own_side(mask: u32, key: u32) -> u32
     ensures { λ r. ⌜ r ≡ ownSide mask key ⌝ }
 {
@@ -214,7 +215,7 @@ fn passes_push(table: &[u32], count: usize, at: Place) -> bool
 pub(crate) fn pushed(table: &[u32], count: usize, start: Leg) -> Leg
     requires room { ⌜ count ≤ capacity (now table) ⌝ }
     requires begun { ⌜ BegunLeg count stageAt start ⌝ }
-    ensures { λ r. ⌜ LegGone (rowAt (now (table .entry))) pushing count stageAt (passesPush (rowAt (now (table .entry))) count) start r ⌝ }
+    ensures { λ r. ⌜ LegStopped (rowAt (now (table .entry))) pushing count stageAt (passesPush (rowAt (now (table .entry))) count) start r ⌝ }
 {
     let mut leg = start;
     while passes_push(table, count, leg.at) {

@@ -1,5 +1,5 @@
 // The ordered set of words of 1 to 32 bits, as a PreTree in a lent table of rows.
-// This file has the types of document 01, "Header and table" and "Answer numbers"; each call stands in a module of its own.
+// This file has the types of document 01, "Header and table" and "Answer numbers". The calls are in the modules.
 
 mod add;
 mod erase;
@@ -85,7 +85,6 @@ pub struct Entry {
     pub serial: u32,
 }
 
-// A row of the table.
 pub struct Row {
     pub entry: Entry,
     pub left: u32,

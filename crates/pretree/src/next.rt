@@ -73,9 +73,9 @@ impl Header {
 }
 
 impl Seek {
-    // Where the next greater word stands: at the row that the seek wants, if a link led there, else at the right link that it left aside. The
-    // keys there are greater than the word: they have its bits down to one that is 0 in it, and 1 in them. `|` sets that bit. (A sum would
-    // overflow where nothing was left aside and the word is the greatest of all.)
+    // The place of the next greater word: the seek's next row, if a link led there; else the right link that the seek remembers. The keys below that
+    // right link have the word's bits down to one bit that is 0 in the word and 1 in them. `|` sets that bit. A sum would overflow if there is no such
+    // link and the word is the greatest of all.
     fn next_place(self, word: u32) -> Place
         requires tail { ⌜ self .tail ≤ word ⌝ }
         requires span { ⌜ self .span < 2 ^ 31 ⌝ }

@@ -63,7 +63,7 @@ impl Header {
     }
 }
 
-// The rows that a way reads: those that it passed, and the row at its end.
+// The number of rows that a way reads: those that it passed, and the row at its end.
 fn rows_to(end: End, passed: u32) -> u32
     requires few { ⌜ passed ≤ 32 ⌝ }
     ensures { λ r. ⌜ r ≡ rowsTo end passed ⌝ }
@@ -74,7 +74,7 @@ fn rows_to(end: End, passed: u32) -> u32
     passed + 1
 }
 
-// The left link of the last row that the way passed, if the way turned right there; else none.
+// The left link of `last`, the last row that the way passed, if the way turned right there; else none.
 fn left_if_right(word: u32, bits: u32, last: Row) -> u32
     requires few { ⌜ bits < 32 ⌝ }
     ensures { λ r. ⌜ r ≡ leftIfRight word bits last ⌝ }
@@ -86,7 +86,7 @@ fn left_if_right(word: u32, bits: u32, last: Row) -> u32
 }
 
 impl Place {
-    // Where the left part of a row stands. Its path is the row's, which the row's key has, and a 0.
+    // The place of the left part of a row. Its path is the path of the row, which the key has, followed by a 0.
     fn left_of(row: Row, mask: u32) -> Place
         requires few { ⌜ mask < 2 ^ 31 ⌝ }
         ensures { λ r. ⌜ r ≡ leftPlace row mask ⌝ }

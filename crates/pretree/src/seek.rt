@@ -1,7 +1,9 @@
-// The leg that follows a word's bits: the way of the word. It judges a row by one number, the words between the row's key and the word. Fewer
-// than at the row above says that the key is greater than "that of the row it was reached from"; fewer than the word's last bits say that it
-// has "the bits of the path". What a call does not need of its memory costs nothing, as long as the compiler makes one piece of the call and
-// the loop: tests/speed counts that.
+// The leg that follows a word's bits: the way of the word. Let d = word − 1 − key, the number of words between the key and the word. A row is
+// passed if d is less than at the row above (the key is greater than "that of the row it was reached from") and less than the word's remaining bits
+// as a number (the key has "the bits of the path"). If the key is the word or more, d wraps round to `word` or more. Then both tests fail, and the
+// seek stops.
+// A call that does not need all that a seek remembers pays nothing for it, as long as the compiler inlines the loop into the call. tests/speed shows
+// the cost if it does not.
 
 use crate::Header;
 use crate::Row;
@@ -18,22 +20,22 @@ ghost use Rattle.pretree.specs.Reply.{wrong-header, too-wide};
 ghost use Rattle.pretree.specs.Seek.{rowOf, rowsBefore, begun, passes, turn, stepped, passed, goesOn, gone, endOf, endAt, placeOf, Sought};
 
 pub struct Seek {
-    // the table word at which the row that it wants begins. The number of the row itself is not carried: that would cost instructions at each row.
+    // the table word at which the next row begins. The row's number is not held: that would cost instructions at each row.
     pub at: usize,
-    // as many ones as bits are left there
+    // a mask with a one for each bit left there
     pub mask: u32,
-    // the bits of the word that are left, as a number: so many words with the bits of the path are less than the word
+    // the word's remaining bits, as a number
     pub tail: u32,
-    // the words between the key above and the word; at the root all that are less than the word
+    // the number of words between the key above and the word; at the root, the word itself
     pub between: u32,
     // the table word at which the last row that it passed begins
     pub above: usize,
-    // the deepest right link that it left aside on a turn to the left, 0 if there is none, and as many ones as bits are left below it
+    // the deepest right link that it skipped on a turn to the left, 0 if there is none; and a mask with a one for each bit left there
     pub aside: usize,
     pub span: u32,
 }
 
-// The words between the key and the word. A key that is not less wraps round, to no fewer than all the words below the word.
+// The number of words between the key and the word. If the key is the word or more, the number wraps round to `word` or more.
 fn words_between(word: u32, key: u32) -> u32
     ensures less { λ r. ⌜ (key < word → r + suc key ≡ word) ⌝ }
     ensures notless { λ r. ⌜ (word ≤ key → word ≤ r) ⌝ }
@@ -61,7 +63,7 @@ impl Seek {
         }
     }
 
-    // The way passes the row with that key.
+    // Whether the way passes a row with this key.
     fn passes(self, word: u32, key: u32) -> bool
         requires between { ⌜ self .between ≤ word ⌝ }
         ensures { λ r. ⌜ r ≡ passes self word key ⌝ }
@@ -73,14 +75,14 @@ impl Seek {
         words < self.tail
     }
 
-    // The side to which the word's next bit turns it: 0 is left, 1 is right.
+    // The side to which the word's next bit sends the seek: 0 is left, 1 is right.
     pub(crate) fn turn(self) -> usize
         ensures { λ r. ⌜ r ≡ turn self ⌝ }
     {
         if self.mask / 2 < self.tail { 1 } else { 0 }
     }
 
-    // One row further down, by the link to that side. The right link is remembered where the way turns left, for `next`.
+    // One row further down, by the link on that side. On a turn to the left the right link is remembered, for `next`.
     pub(crate) fn stepped(self, link: u32, right: u32) -> Seek
         ensures { λ r. ⌜ r ≡ stepped self link right ⌝ }
     {
@@ -112,7 +114,7 @@ impl Seek {
         s
     }
 
-    // Where the row that it wants stands.
+    // The place of the next row.
     pub(crate) fn place(self, word: u32) -> Place
         requires tail { ⌜ self .tail ≤ word ⌝ }
         requires between { ⌜ self .between ≤ word ⌝ }
@@ -126,7 +128,7 @@ impl Seek {
         }
     }
 
-    // How the way ends, at the row that it does not pass. A link of 0 led to the root, whose key is less than the word.
+    // How the way ends at `row`, which it does not pass. An empty link is 0, so it leads back to row 0, the root, whose key is less than the word.
     fn end(self, word: u32, row: Row) -> End
         requires tail { ⌜ self .tail ≤ self .mask ⌝ }
         ensures { λ r. ⌜ r ≡ endOf self word row ⌝ }
@@ -160,8 +162,8 @@ impl Seek {
     }
 }
 
-// The row that the seek wants is in use, and the way passes it.
-// `past` lies three words before the end of the rows in use: a row in use begins before it, and no other row does.
+// Whether the next row is in use and is passed.
+// `past` is the table word three before the end of the rows in use: the rows in use begin before it, and no other row does.
 fn goes_on(table: &[u32], past: usize, word: u32, s: Seek) -> bool
     requires room { ⌜ rowsBefore past ≤ capacity (now table) ⌝ }
     requires past { ⌜ past + 3 ≡ rowWords * rowsBefore past ⌝ }
@@ -177,7 +179,7 @@ fn goes_on(table: &[u32], past: usize, word: u32, s: Seek) -> bool
     s.passes(word, key)
 }
 
-// The seek past that row.
+// The seek past its next row.
 fn gone(table: &[u32], word: u32, s: Seek) -> Seek
     requires used { ⌜ rowOf s < capacity (now table) ⌝ }
     requires at { ⌜ s .at ≡ rowWords * rowOf s ⌝ }
@@ -206,7 +208,7 @@ pub(crate) fn sought(table: &[u32], h: Header, word: u32) -> Seek
     s
 }
 
-// How the way ends, where it passes no more rows.
+// How the way ends, once it passes no more rows.
 pub(crate) fn seek_end(table: &[u32], count: usize, word: u32, s: Seek) -> End
     requires room { ⌜ count ≤ capacity (now table) ⌝ }
     requires tail { ⌜ s .tail ≤ s .mask ⌝ }

@@ -1,4 +1,4 @@
-// The rows of a lent table: where one stands, and the checks of header and word that every call makes first.
+// Reading a row of a lent table, and the checks of header and word that every call makes first.
 
 use crate::Answer;
 use crate::Entry;
@@ -66,7 +66,7 @@ impl Header {
         1u64 << self.width <= word as u64
     }
 
-    // A call on a word is refused for its header or for the word.
+    // Whether a call on a word is refused, for its header or for the word.
     pub(crate) fn refuses(self, table: &[u32], word: u32) -> bool
         ensures { λ r. ⌜ r ≡ refuses self (now (table .entry)) word ⌝ }
     {
@@ -76,7 +76,7 @@ impl Header {
         self.is_exceeded_by(word)
     }
 
-    // Answer 2 before answer 3.
+    // The refusal of such a call: answer 2 comes before answer 3.
     pub(crate) fn refusal(self, table: &[u32]) -> Reply
         ensures { λ r. ⌜ r ≡ refusal self (now (table .entry)) ⌝ }
     {

@@ -1,6 +1,6 @@
 // The calls on the whole table: `new`, `audit` and `list`.
-// "The listing of a row's part is its key, then its left part, then its right part": `audit` and `list` go so through the rows. They recurse on
-// the left part and go on with the right part, with the bits left as the number that falls.
+// "The listing of a row's part is its key, then its left part, then its right part": `audit` and `list` read the rows in this order. They recurse on
+// the left part and loop on to the right part. At each row further down one bit fewer is left, so they end.
 
 use crate::Answer;
 use crate::Header;
@@ -26,10 +26,10 @@ ghost use Rattle.pretree.specs.Sound.{isSound};
 ghost use Rattle.pretree.specs.Reply.{wrong-header};
 ghost use Rattle.pretree.specs.Whole.{newReply, newTable, auditReply, listReply, listBuffer};
 ghost use Rattle.pretree.specs.Seek.{bitsLeft};
-ghost use Rattle.pretree.specs.Part.{ofPlace, rowTree, linkTree, placeTree, counted, StandsSome, Standing, StandingLink, Listable};
+ghost use Rattle.pretree.specs.Part.{ofPlace, rowTree, linkTree, placeTree, counted, SomeWalkStands, Standing, StandingLink, Listable};
 
 impl Place {
-    // Where a row that is no damage stands, as its own key shows.
+    // The place of an undamaged row, from its key. Its number and its least key are not needed below it.
     fn of(row: Row, mask: u32) -> Place
         ensures { λ r. ⌜ r ≡ ofPlace row mask ⌝ }
     {
@@ -52,8 +52,8 @@ fn has_link(row: Row) -> bool
     row.right != 0
 }
 
-// The empty links below a row that is no damage, or 0 where there is damage below. A part has one more of them than it has rows. Keys strictly
-// rise along the rows that are met before the first damage, so none is met twice, on a table with loops or shared rows too.
+// The number of empty links in the part of an undamaged row, or 0 if there is damage in it. A part has one empty link more than it has rows. The
+// keys strictly increase along the rows that are met before the first damage. So no row is met twice, even if the table has loops or shared rows.
 fn row_counted(table: &[u32], count: usize, from: usize, bits: u32) -> u64
     requires room { ⌜ count ≤ capacity (now table) ⌝ }
     requires row { ⌜ Standing (rowAt (now table)) count bits from ⌝ }
@@ -80,10 +80,10 @@ fn row_counted(table: &[u32], count: usize, from: usize, bits: u32) -> u64
     links + 1
 }
 
-// The same below a link. An empty link counts itself.
+// Like `row_counted`, for the part that a link leads to. An empty link counts as one.
 fn link_counted(table: &[u32], count: usize, at: Place) -> u64
     requires room { ⌜ count ≤ capacity (now table) ⌝ }
-    requires place { ⌜ StandsSome at ⌝ }
+    requires place { ⌜ SomeWalkStands at ⌝ }
     ensures { λ r. ⌜ r ≡ counted (placeTree (rowAt (now (table .entry))) count at) ⌝ }
 {
     let end = link_end(table, count, at);
@@ -117,7 +117,7 @@ fn row_listed(table: &[u32], from: usize, bits: u32, buffer: &mut [u32], start: 
     next + 1
 }
 
-// The same of the part that a link leads to.
+// Like `row_listed`, for the part that a link leads to. An empty link has no rows.
 fn link_listed(table: &[u32], link: u32, mask: u32, buffer: &mut [u32], next: usize) -> usize
     requires row { ⌜ StandingLink (rowAt (now table)) (capacity (now table)) mask link ⌝ }
     requires part { ⌜ Listable (linkTree (rowAt (now table)) (capacity (now table)) (bitsLeft mask) link) (now buffer) next ⌝ }
@@ -130,7 +130,7 @@ fn link_listed(table: &[u32], link: u32, mask: u32, buffer: &mut [u32], next: us
     row_listed(table, link as usize, mask, buffer, next)
 }
 
-// Zeros in every row up to capacity. "Words past the last whole row, or past that limit, are never changed."
+// Writes zeros to every row up to capacity. "Words past the last whole row, or past that limit, are never changed."
 fn clear(table: &mut [u32])
     ensures { λ _. ⌜ now (table .exit) ≡ replicate (rowWords * capacity (now (table .entry))) 0 ++ drop (rowWords * capacity (now (table .entry))) (now (table .entry)) ⌝ }
 {
@@ -157,7 +157,7 @@ impl Header {
         Header::fresh(width).answered(Answer::Done, 0)
     }
 
-    // The whole tree has no damage and as many rows as are in use, so that no row is left to which nothing leads.
+    // The whole tree has no damage and as many rows as are in use. So a link leads to every row in use except the root.
     fn is_sound(self, table: &[u32]) -> bool
         requires header { ⌜ wrong-header self (now table) ≡ false ⌝ }
         ensures { λ r. ⌜ r ≡ isSound self (now (table .entry)) ⌝ }

@@ -10,7 +10,7 @@ ghost use Prim.Native.Nat.{_/_, _%_, _^_, _<_, _≤_};
 ghost use Rattle.ordered.specs.Word.{sideOf};
 ghost use Rattle.pretree.specs.Table.{capacity, fromCode, withEntry, withSerial, withLink, withRow, hooked};
 
-// The side of the row above to which a place is linked, with so many bits left: 0 is left, 1 is right.
+// The side of the row above on which a place with `bits` bits left is linked: 0 is left, 1 is right.
 pub(crate) fn side_of(at: Place, bits: u32) -> u32
     requires narrow { ⌜ bits ≤ 32 ⌝ }
     ensures { λ r. ⌜ r ≡ at .path / 2 ^ bits % 2 ⌝ }
@@ -18,7 +18,7 @@ pub(crate) fn side_of(at: Place, bits: u32) -> u32
     (((at.path as u64) >> bits) % 2) as u32
 }
 
-// Row i takes an entry, all of it at once.
+// Row i takes the key and the serial of an entry.
 pub(crate) fn put_entry(table: &mut [u32], i: usize, entry: Entry)
     requires { ⌜ i < capacity (now table) ⌝ }
     ensures { λ _. ⌜ now (table .exit) ≡ withEntry i (fromCode entry) (now (table .entry)) ⌝ }
@@ -37,7 +37,7 @@ pub(crate) fn put_serial(table: &mut [u32], i: usize, serial: u32)
     table[at] = serial;
 }
 
-// The link of row i on one side: 0 is left, 1 is right.
+// Sets the link of row i on one side: 0 is left, 1 is right.
 pub(crate) fn put_link(table: &mut [u32], i: usize, side: u32, link: u32)
     requires { ⌜ (i < capacity (now table)) × (side < 2) ⌝ }
     ensures { λ _. ⌜ now (table .exit) ≡ withLink i (sideOf side) link (now (table .entry)) ⌝ }
@@ -46,7 +46,7 @@ pub(crate) fn put_link(table: &mut [u32], i: usize, side: u32, link: u32)
     table[at] = link;
 }
 
-// The same of the row where a way passed last, if it passed any.
+// Sets the link of the last row that a way passed. `any` says whether it passed one.
 pub(crate) fn hook(table: &mut [u32], any: bool, i: usize, side: u32, link: u32)
     requires row { ⌜ (any ≡ true → i < capacity (now table)) ⌝ }
     requires side { ⌜ side < 2 ⌝ }

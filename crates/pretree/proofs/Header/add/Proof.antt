@@ -1,4 +1,4 @@
--- The checks of document 01's order, the way of the word, and then what its end says.
+-- The checks in document 01's order, the way of the word, and then the cases of its end.
 use Prim.Native.Nat.{_≤_}
 use mathlib.Core.Path.{_≡_, refl, sym, ap, _∙_, subst}
 use mathlib.Core.Bool.{false}

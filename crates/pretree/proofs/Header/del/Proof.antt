@@ -1,4 +1,4 @@
--- The checks of document 01's order; then the way of k, and the answer 8 where it doesn't end at k.
+-- The checks in document 01's order, then the way of k, and the answer 8 if it does not end at k.
 use Prim.Native.Nat.{_<_}
 use mathlib.Core.Path.{_≡_, refl, sym, ap, _∙_}
 use mathlib.Core.Bool.{false}
@@ -26,11 +26,11 @@ fine c =
     let a = begin (c .before) .args in
     not-refused (a .self) (a .table .now) (a .word) (sym (c .before .refuses .ensures) ∙ c .if1 .left)
 
--- and the set has words
+-- the set has words
 some : (c : tie.Else2) → 0 < begin (c .before .before .before) .args .self .count
 some c = pos-of-ne-zero (c .if2 .left)
 
--- the call where the seek is done, and how the seek ended
+-- from the end of the seek back to earlier points of the call
 abbrev unrefused : tie.After-sought → tie.Else1
 unrefused c = c .before .before .before .before
 
@@ -40,7 +40,7 @@ start-of c = begin (unrefused c .before)
 abbrev seek-of : tie.After-seek-end → tie.After-sought
 seek-of c = c .before .before .before
 
--- the seek by its numbers: the call's table, header and word, and what it said
+-- the seek of this call has ended as its result says
 way-of : (c : tie.After-seek-end)
     → let a = start-of (seek-of c) .args in SeekDone (a .self) (a .table .now) (a .word) (seek-of c .sought .result) (c .seek-end .result)
 way-of c =

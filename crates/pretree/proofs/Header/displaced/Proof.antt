@@ -1,11 +1,11 @@
--- The row is passed, the leg of the push goes on, and its end says what is done.
+-- The row is passed, the push continues below it, and the end of the push decides the reply.
 use mathlib.Core.Path.{_≡_, refl, sym, _∙_}
 use Rattle.ordered.specs.Word.{sideOf}
 use Rattle.ordered.specs.Way.{pushing}
 use Rattle.pretree.specs.declared.leg.End.the-variants.{Damage}
 use Rattle.pretree.specs.Table.{fromCode, rowAt}
 use Rattle.pretree.specs.Walk.{stageAt}
-use Rattle.pretree.specs.Leg.{belowPlace, linkEnd, passesPush, ownSide, BegunLeg, LegGone}
+use Rattle.pretree.specs.Leg.{belowPlace, linkEnd, passesPush, ownSide, BegunLeg, LegStopped}
 use Rattle.pretree.specs.Add.{addOutcome}
 use Rattle.pretree.specs.Push.{endBits, endSide, Growable, grownOutcome}
 use Rattle.pretree.proofs.Checks.{right-header}
@@ -50,7 +50,7 @@ link-end-requires c κs =
 
 -- the leg that went the push
 went : (c : tie.After-pushed) → let a = c .before .before .before .before .before .before .args in
-    LegGone (rowAt (a .table .now)) pushing (a .self .count) stageAt (passesPush (rowAt (a .table .now)) (a .self .count))
+    LegStopped (rowAt (a .table .now)) pushing (a .self .count) stageAt (passesPush (rowAt (a .table .now)) (a .self .count))
     (record { at = belowPlace (a .at) (a .row) (sideOf (ownSide (a .at .mask) (a .row .entry .key))); above = a .at .row })
     (c .pushed .result)
 went c = let b = c .before .before .before in rw (b .below .ensures, b .before .own-side .ensures) at (c .pushed .ensures)
@@ -74,7 +74,7 @@ returns c =
     (sym (l .link-end .ensures) ∙ c .before .enum-told .given .1))
     (c .refused .ensures, refl)
 
--- its end is none, or a row
+-- its end is not damage
 whole : (c : tie.At-match-keys2) → let p = c .before .before .before .before in
     let a = p .before .before .before .before .before .before .args in
     linkEnd (rowAt (a .table .now)) (a .self .count) (p .pushed .result .at) ≡ Damage → ⊥

@@ -1,4 +1,4 @@
--- Damage on the stretch, or what was judged of it.
+-- The stretch met damage, or it was judged and `filled` does the rest.
 use Prim.Native.Nat.{_≤_}
 use mathlib.Core.Path.{_≡_, refl, sym, _∙_}
 use native.Mathlib.Nat.{le-trans}
@@ -14,7 +14,7 @@ use borrow.Author.Needs.{needs}
 use Rattle.pretree.proofs.Header.erased.Statement.{statement}
 use Rattle.pretree.proofs.Header.erased.Tie as tie
 
--- where the call began, and the leg of a row's end
+-- from a point of the call back to its beginning, and back to the end of the leg
 abbrev begin : tie.After-down → tie.Start
 begin c = c .before .before .before .before
 

@@ -1,4 +1,4 @@
--- The last row's way goes astray, or all that is left to do is to write.
+-- The second way is astray, or everything is judged and the writes follow.
 use mathlib.Core.Path.{refl}
 use native.Mathlib.Omega.{arith}
 use native.Mathlib.Numerals.{sub-one}

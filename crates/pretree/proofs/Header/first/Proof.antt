@@ -1,4 +1,4 @@
--- The header's check, and then the root.
+-- The check of the header, and then the root.
 use mathlib.Core.Path.{_≡_, sym, _∙_}
 use mathlib.Core.Bool.{false}
 use Rattle.ordered.specs.Way.{staying}
@@ -9,7 +9,7 @@ use Rattle.pretree.specs.Walk.{started}
 use Rattle.pretree.specs.Leg.{rootPlace}
 use Rattle.pretree.specs.Find.{firstReply}
 use Rattle.pretree.proofs.Checks.{RightHeader, right-header}
-use Rattle.pretree.proofs.Places.{judges-so, root-stands}
+use Rattle.pretree.proofs.Places.{judges-alike, root-stands}
 use Rattle.pretree.proofs.Found.{root-refused, no-root, from-root, row-read}
 use borrow.Author.Needs.{needs}
 use Rattle.pretree.proofs.Header.first.Statement.{statement}
@@ -68,7 +68,7 @@ returns-3 c =
     let table = a .table .now in
     c .word-by .ensures
     ∙ rw (c .before .row-end .ensures, c .before .before .root .ensures)
-    (sym (row-read h 0 (rowAt table) (h .count) (h .width) 0 0 (rootPlace (h .width)) (judges-so (rootPlace (h .width)) (started h) (root-stands h (right e .at-most-32)) (rowAt table 0)))
+    (sym (row-read h 0 (rowAt table) (h .count) (h .width) 0 0 (rootPlace (h .width)) (judges-alike (rootPlace (h .width)) (started h) (root-stands h (right e .at-most-32)) (rowAt table 0)))
     ∙ from-root h table staying (fine e) (q .if2 .left))
 
 pub first-spec : {M : Type 1} → statement M

@@ -1,4 +1,4 @@
--- The checks of document 01's order, and then where the seek stopped.
+-- The checks in document 01's order, and then where the seek stopped.
 use Prim.Native.Nat.{_-_}
 use mathlib.Core.Path.{_≡_, refl, sym, _∙_}
 use mathlib.Core.Bool.{false}
@@ -78,7 +78,7 @@ reply c =
     rw (c .seek-end .ensures)
     (gap-sought (a .self) (a .table .now) (a .word) (fine e .0) (fine e .1) (q .sought .result) (q .sought .ensures) (pos-of-ne-zero (q .before .if2 .left)))
 
--- what is left, if it is neither damage nor a row
+-- the end is neither damage nor a row, so it is an empty link
 neither : (e : End) → OneOf (0 ∷ 1 ∷ []) (tagOf the-type e) → OneOf (0 ∷ 2 ∷ []) (tagOf the-type e) → e ≡ Ends.the-variants.None
 neither Ends.the-variants.None whole no-row = refl
 neither (Ends.the-variants.Row r) whole no-row = absurd (miss (0 ∷ 2 ∷ []) 1 tt no-row)

@@ -1,4 +1,4 @@
--- The leg goes down with a walk, and the walk's end says what is answered.
+-- A walk goes with the leg, and the end of the walk gives the reply.
 use mathlib.Core.Path.{_∙_}
 use native.Mathlib.Omega.{arith}
 use Rattle.pretree.proofs.Checks.{right-header}

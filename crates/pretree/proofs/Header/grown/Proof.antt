@@ -1,4 +1,4 @@
--- A full table, or else the push, the link and the row, one after the other.
+-- The table is full; or the push, the link and the new row are written, in this order.
 use Prim.Native.Nat.{_<_}
 use mathlib.Core.Path.{_≡_, refl, sym, _∙_}
 use native.Mathlib.Nat.{le-trans}

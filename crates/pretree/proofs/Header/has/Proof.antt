@@ -1,4 +1,4 @@
--- The checks of document 01's order, and then where the seek stopped.
+-- The checks in document 01's order, and then where the seek stopped.
 use mathlib.Core.Path.{_≡_, sym, _∙_}
 use mathlib.Core.Bool.{false}
 use native.Mathlib.Nat.{pos-of-ne-zero}

@@ -1,4 +1,4 @@
--- A table is sound when its root is no damage, and the empty links below it are one more than the rows in use.
+-- A table is sound if its root is undamaged and there is one empty link more than there are rows in use.
 use Prim.Native.Nat.{ℕ, _+_, _≤_}
 use mathlib.Core.Path.{_≡_, sym, ap, _∙_}
 use mathlib.Core.Bool.{false}
@@ -24,7 +24,7 @@ use Rattle.pretree.proofs.Header.is_sound.Tie as tie
 abbrev begin : tie.After-row-end → tie.Start
 begin c = c .before .before .before .before .before
 
--- the sum of the rows in use and one does not overflow
+-- the number of rows in use plus one does not overflow
 few-rows : (h : Header) (table : List ℕ) → wrong-header h table ≡ false → h .count ≤ 65535
 unfolding capacity
 few-rows h table right-there = let room = right-header h table right-there .has-room in omega arith

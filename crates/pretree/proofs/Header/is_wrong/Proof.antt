@@ -12,7 +12,7 @@ use Rattle.pretree.specs.Reply.{wrong-header}
 use Rattle.pretree.proofs.Header.is_wrong.Statement.{statement}
 use Rattle.pretree.proofs.Header.is_wrong.Tie as tie
 
--- the rows fit if their words do
+-- the rows are within the capacity if their words are in the table
 by-words : (n count : ℕ) → count ≤ 65535 → ltb n (rowWords * count) ≡ ltb (min (n / rowWords) 65535) count
 by-words n count few = go (ltb n (rowWords * count)) refl
   where

@@ -1,4 +1,4 @@
--- The header's check, and then the greatest word from the root down.
+-- The check of the header, and then the greatest word from the root down.
 use mathlib.Core.Path.{_≡_, refl, sym, _∙_}
 use mathlib.Core.Bool.{false}
 use native.Mathlib.Omega.{arith}
@@ -50,7 +50,7 @@ returns-2 c =
 root-requires : tie.Need-root-requires
 root-requires c κs = right (c .before .before) .at-most-32
 
--- the root is where a walk begins
+-- a walk begins at the root
 begun : (c : tie.After-root) → GreatestFrom (c .before .before .before .before .before .before .args .self) (c .root .result)
 begun c =
     let e = c .before .before .before in

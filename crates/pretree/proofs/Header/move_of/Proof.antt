@@ -1,4 +1,4 @@
--- Nothing moves; or the last key is no word; or the seek that went the second way says where it ended.
+-- Three cases: nothing moves; the last key is no word; or a seek follows the second way.
 use Prim.Native.Nat.{ℕ, pred, _-_, _≤_}
 use mathlib.Core.Path.{_≡_, sym, ap, _∙_}
 use mathlib.Core.Bool.{true, false}
@@ -12,7 +12,7 @@ use Rattle.pretree.specs.Reply.{too-wide}
 use Rattle.pretree.specs.Seek.{rowOf, bitsLeft}
 use Rattle.pretree.proofs.Checks.{right-header}
 use Rattle.pretree.proofs.Sought.{tail-few, tail-less, between-few, mask-few}
-use Rattle.pretree.proofs.Erasing.{ends-last, is-last, no-last, no-link-hangs, nothing-moves, wide-moves, seek-done, seek-moves, seek-hangs}
+use Rattle.pretree.proofs.Erasing.{ends-last, is-last, no-last, no-link-in-table, nothing-moves, wide-moves, seek-done, seek-moves, seek-hook-in-table}
 use Rattle.pretree.proofs.EndTags.{not-row}
 use borrow.Author.Needs.{needs}
 use Rattle.pretree.proofs.Header.move_of.Statement.{statement}
@@ -46,7 +46,7 @@ returns c =
     let a = start .args in
     rw (c .no-link .ensures) (
       nothing-moves (a .self) (a .table .now) (start .pre .0) (a .hole) (c .before .if1 .taken ∙ sub-one _),
-      no-link-hangs (capacity (a .table .now)) false false,
+      no-link-in-table (capacity (a .table .now)) false false,
     )
 
 row-at-requires : tie.Need-row-at-requires
@@ -81,7 +81,7 @@ returns-2 c =
     let wide = sym (asked .is-exceeded-by .ensures) ∙ c .before .if2 .taken in
     rw (c .no-link2 .ensures) (
       wide-moves (a .self) (a .table .now) (start .pre .0) (row .row-at .result .entry .key) (key-is row) wide (a .hole) (apart (row .before)),
-      no-link-hangs (capacity (a .table .now)) true true,
+      no-link-in-table (capacity (a .table .now)) true true,
     )
 
 sought-requires : tie.Need-sought-requires
@@ -139,7 +139,7 @@ hook-of-requires c κs =
     let bits = c .before .before .before .before in
     rw (bits .bits-of .ensures) (le-trans (few (seeking bits)) (width-few (seeking bits)))
 
--- what the arms tell
+-- what the two arms say about the end of the second way
 ends-so : (c : tie.At-match-came)
     → let here = seeking (c .before .before) in
     c .match .ends ≡ ends-last (rowOf (here .sought .result)) (start-of here .args .self .count - 1) (c .before .before .before .seek-end .result)
@@ -159,7 +159,7 @@ returns-3 c =
     let done = seek-done (a .self) (a .table .now) (row .row-at .result .entry .key) (here .sought .result) (end .result) (start .pre .0) (narrow (here .before)) (start .pre .1) (here .sought .ensures) (end .ensures) in
     let place = c .before .before .place .ensures in (
       seek-moves done (key-is row) place (bits .bits-of .ensures) (c .hook-of .ensures) (came .match .ends) (ends-so came) (a .hole) (apart (row .before)),
-      seek-hangs done (key-is row) place (bits .bits-of .ensures) (c .hook-of .ensures),
+      seek-hook-in-table done (key-is row) place (bits .bits-of .ensures) (c .hook-of .ensures),
     )
 
 pub move-of-spec : {M : Type 1} → statement M

@@ -1,4 +1,4 @@
--- By what `prev` found; their two counts are small enough to be added.
+-- By what `prev` found. The sum of the two counts does not overflow.
 use Prim.Native.Nat.{_+_, _≤_}
 use mathlib.Core.Path.{_≡_, sym, _∙_}
 use native.Mathlib.Omega.{arith}
@@ -54,7 +54,7 @@ enum-told-2 c = search needs
 refused-requires : tie.Need-refused-requires
 refused-requires c κs = search needs
 
--- by what is below, the reply that the contract asks
+-- the reply that the contract requires, by what is below
 found : (c : tie.After-neighbour-in2) (lower : Neighbour) → c .before .neighbour-in .result ≡ lower
     → let x = c .before .before .before .before in
     let a = x .before .before .before .args in

@@ -22,16 +22,16 @@ use borrow.Author.Needs.{needs}
 use Rattle.pretree.proofs.Header.next_at.Statement.{statement}
 use Rattle.pretree.proofs.Header.next_at.Tie as tie
 
--- the link to the side that the seek turns
+-- the link on the side to which the seek turns
 link-there : (c : tie.Joined2) → c .if2 .link ≡ link (c .before .before .before .before .end .given .0 .0) (sideOf (c .before .turn .result))
 link-there c = ⊎-elim (λ w. rw (w .0 .taken) (w .1)) (λ w. rw (goes-right (c .before .turn .result) (w .0 .left)) (w .1)) (c .if2 .came)
 
--- half a mask, or what was left aside before, is less than 2 ^ 31
+-- the mask of the remembered right link is less than 2 ^ 31
 half-few : (b : Bool) {mask span : ℕ} → mask < 2 ^ 32 → span < 2 ^ 31 → (if b then mask / 2 else span) < 2 ^ 31
 half-few true small few = omega arith
 half-few false small few = few
 
--- the reply past a row that is not greater than the word, where the code's numbers are those of the definition
+-- the reply past a row whose key is not greater than the word
 past-equal : (h : Header) (rows : ℕ → Rows.Row) (k : ℕ) (s t : Seek) (r : Rows.Row) (bits l side : ℕ) → ltb k (r .entry .key) ≡ false
     → t ≡ stepped s l (r .right) → l ≡ link r (sideOf side) → side ≡ turn s → bits ≡ bitsLeft (s .mask)
     → nextFrom h rows k t (h .width - bits + 1) ≡ nextAt h rows k s (Row r)

@@ -73,7 +73,7 @@ left-if-right-requires c κs =
 answered-requires-2 : tie.Need-answered-requires-2
 answered-requires-2 c κs = search needs
 
--- the left link that was looked at
+-- the left link of the last row that the way passed
 looked : (c : tie.After-left-if-right)
     → let a = c .before .before .before .before .before .before .before .before .before .args in
     c .left-if-right .result ≡ leftIfRight (a .word) (bitsLeft (a .s .mask)) (rowAt (a .table .now) (aboveOf (a .s)))

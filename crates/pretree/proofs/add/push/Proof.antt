@@ -1,4 +1,4 @@
--- The loop keeps what is still to be taken from the row at hand on what was to be taken at the start; the bits left fall.
+-- The loop keeps `Pushes`: the entries still to be written, in the table as it is now, give the table that the whole push gives. The bits left decrease.
 use Prim.Native.Nat.{suc, _+_, _-_, _/_, _%_, _^_, _≤_}
 use mathlib.Core.Path.{_≡_}
 use mathlib.Core.Logic.{⊎-elim}
@@ -29,7 +29,7 @@ ready c =
     let more : l .left - a .end ≡ suc (l .left - 1 - a .end) = omega arith in
     rw more at (l .inv .2)
 
--- the next row is the one to which its own bits send the key
+-- the next row is the one to which the key's own bits push it
 next-is : (c : tie.Joined1 Inv-loop μ-loop)
     → let r = c .before .before .row-at .result in
     let l = c .before .before .before .before .before .loop in

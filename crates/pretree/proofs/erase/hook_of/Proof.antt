@@ -1,4 +1,4 @@
--- The side is the one that `side_of` says.
+-- By the contract of `side_of`.
 use borrow.Author.Needs.{needs}
 use Rattle.pretree.proofs.erase.hook_of.Statement.{statement}
 use Rattle.pretree.proofs.erase.hook_of.Tie as tie

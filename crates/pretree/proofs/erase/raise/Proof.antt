@@ -1,9 +1,9 @@
--- The loop keeps what `Raises` says: what is still to be taken leads to the same table. The number that falls is that of the rows left.
+-- The loop keeps `Raises`: the writes that are still to come lead to the table of the contract. The number of steps left decreases.
 use mathlib.Core.Path.{_≡_}
 use mathlib.Core.Logic.{⊎-elim}
 use borrow.Author.Needs.{needs}
 use borrow.Author.Tests.{eq-eqb, ne-eqb}
-use Rattle.pretree.specs.Erased.{beneath, raising}
+use Rattle.pretree.specs.Erased.{row-below, raising}
 use Rattle.pretree.specs.Add.{taking}
 use Rattle.pretree.proofs.Raising.{Raises, raises-first, raises-more, at-same, at-used, next-used, next-same}
 use Rattle.pretree.proofs.erase.raise.Statement.{statement}
@@ -16,7 +16,7 @@ abbrev μ-loop : tie.MeasureT-loop
 μ-loop table₀ from steps at₀ left₀ table at left = left
 
 -- "by left link, else right link"
-below-is : (c : tie.Joined1 Inv-loop μ-loop) → c .if1 .below ≡ beneath (c .before .before .row-at .result)
+below-is : (c : tie.Joined1 Inv-loop μ-loop) → c .if1 .below ≡ row-below (c .before .before .row-at .result)
 below-is c = ⊎-elim (λ w. simp (ne-eqb _ _ (w .0 .taken)) (w .1)) (λ w. simp (eq-eqb _ _ (w .0 .left)) (w .1)) (c .if1 .came)
 
 loop-holds : tie.Need-loop-holds Inv-loop μ-loop

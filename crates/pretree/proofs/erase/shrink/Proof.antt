@@ -1,4 +1,4 @@
--- One write after the other, in a table of the same length.
+-- The writes one after the other. None changes the length of the table.
 use borrow.Author.Needs.{needs}
 use mathlib.Core.Path.{_∙_}
 use Rattle.pretree.proofs.Erasing.{writes-empty}
@@ -14,7 +14,7 @@ hook-requires c κs =
     let start = c .before .before .before .before .before .before in
     let raised = c .before .before .before .raise in
     let room = same-capacity (raised .last .0) (start .args .table .now) (raised .kept .0) in
-    rw room (start .pre .1 .0 .hangs)
+    rw room (start .pre .1 .0 .hook-in-table)
 
 fill-requires : tie.Need-fill-requires
 fill-requires c κs =

@@ -1,4 +1,4 @@
--- What is neither a word nor that there is none is neither in the definition.
+-- An answer that is neither `Word` nor `NoSuchWord` is `Unknown`, in the code and in the definition.
 use mathlib.Core.Path.{_≡_, refl}
 use mathlib.Core.List.{[], _∷_}
 use types.Run.{miss}

@@ -1,4 +1,4 @@
--- By the link on the side named.
+-- By the link on `side`.
 use mathlib.Core.Path.{_≡_, sym, _∙_}
 use mathlib.Core.Logic.{⊎-elim}
 use borrow.Author.Needs.{needs}

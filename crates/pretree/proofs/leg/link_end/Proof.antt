@@ -1,4 +1,4 @@
--- A link of 0 first.
+-- The test for a link of 0 comes first.
 use borrow.Author.Needs.{needs}
 use borrow.Author.Tests.{eq-eqb, ne-eqb}
 use Rattle.pretree.proofs.leg.link_end.Statement.{statement}

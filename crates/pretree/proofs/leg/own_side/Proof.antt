@@ -1,4 +1,4 @@
--- The top bit of the key's rest decides.
+-- The top bit of the key's remaining bits decides.
 use borrow.Author.Tests.{lt-ltb, le-ltb}
 use Rattle.pretree.proofs.leg.own_side.Statement.{statement}
 use Rattle.pretree.proofs.leg.own_side.Tie as tie

@@ -8,7 +8,7 @@ use Rattle.pretree.specs.Leg.{judges}
 use Rattle.pretree.proofs.leg.passes_down.Statement.{statement}
 use Rattle.pretree.proofs.leg.passes_down.Tie as tie
 
--- the row is judged as it stands in the table
+-- the row that is judged is the one in the table
 judged : (c : tie.After-judges) → let a = c .before .before .before .before .args in c .judges .result ≡ judges (a .at) (rowAt (a .table .now) (a .at .row))
 judged c = rw (c .before .row-at .ensures) at (c .judges .ensures)
 

@@ -1,4 +1,4 @@
--- By the last bit of the path.
+-- By the bit of the word that decided at the row.
 use Prim.Native.Nat.{_/_, _%_, _^_}
 use borrow.Author.Tests.{eq-eqb, ne-eqb}
 use borrow.Author.Needs.{needs}

@@ -1,4 +1,4 @@
--- Past an empty link there is one row more.
+-- At an empty link no row is read, else one more.
 use Prim.Native.Nat.{ℕ, _+_}
 use mathlib.Core.Path.{_≡_, refl}
 use mathlib.Core.List.{[], _∷_}

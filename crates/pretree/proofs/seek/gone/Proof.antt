@@ -1,4 +1,4 @@
--- The key and the links stand in the table, since the row does.
+-- The row is in the table, so its key and links are.
 use Prim.Native.Nat.{ℕ, _+_, _*_, _/_, _≤_, _<_, suc-le-suc}
 use mathlib.Core.Path.{_≡_, sym, _∙_, subst}
 use mathlib.Core.Bool.{Bool, true, false}

@@ -1,4 +1,4 @@
--- The loop keeps a walk of the word's way beside the seek; the number that falls is the mask.
+-- The loop keeps `OnSeek`: some walk of the word's way is where the seek is. The mask decreases.
 use Prim.Native.Nat.{ℕ, _+_, _*_, _-_, _≤_, _<_}
 use mathlib.Core.Path.{_≡_, sym, _∙_}
 use mathlib.Core.List.{List}
@@ -61,7 +61,7 @@ goes-on-requires : tie.Need-goes-on-requires Inv-loop μ-loop
 goes-on-requires c κs =
     (c .loop .inv .0, (c .loop .inv .1, (omega (arith, c .loop .inv .2 .shows .between), c .loop .inv .2 .shows .at)))
 
--- what is known where the loop goes on
+-- what is known in each turn of the loop
 goes-further : (c : tie.Then1 Inv-loop μ-loop)
     → let a = c .before .before .before .before .before .before .args in
     Further (a .table .now) (header (c .before .before .before .before .start .result) (rowsBefore (rowWords * a .h .count - 3))) (a .word) (c .before .before .loop .s)
@@ -77,7 +77,7 @@ loop-less : tie.Need-loop-less Inv-loop μ-loop
 loop-less c = rw (c .gone .ensures) (goes-further (c .before) .falls)
 
 loop-again : tie.Need-loop-again Inv-loop μ-loop
-loop-again c = (c .before .before .before .loop .inv .0, c .before .before .before .loop .inv .1, rw (c .gone .ensures) (goes-further (c .before) .goes))
+loop-again c = (c .before .before .before .loop .inv .0, c .before .before .before .loop .inv .1, rw (c .gone .ensures) (goes-further (c .before) .on-seek))
 
 returns : tie.Need-returns Inv-loop μ-loop
 returns c =

@@ -6,20 +6,16 @@ use Rattle.pretree.proofs.table.capacity.Tie as tie
 use Rattle.pretree.proofs.table.capacity.Reads as reads
 use Rattle.pretree.proofs.table.capacity.Lts as lts
 
--- src/table.rt:29:9
 cast-result : tie.Need-cast-result
 cast-result c = search needs
 
--- src/table.rt:31:9
 cast-result-2 : tie.Need-cast-result-2
 cast-result-2 c = search needs
 
--- src/table.rt:24:1
 returns : tie.Need-returns
 unfolding capacity
 returns c = omega arith
 
--- src/table.rt:24:1
 returns-2 : tie.Need-returns-2
 unfolding capacity
 returns-2 c = omega arith

@@ -1,4 +1,4 @@
--- `row_counted` and `link_counted` call each other. The mask falls: at a row the measure is twice the mask, at a link one more.
+-- `row_counted` and `link_counted` call each other, and the mask decreases: the measure is twice the mask at a row, and one more at a link.
 use Prim.Native.Nat.{ℕ, suc, _+_, _*_, _/_, _^_, _≤_, _<_}
 use mathlib.Core.Path.{_≡_, refl, sym, ap, _∙_, subst}
 use mathlib.Core.Bool.{true, false, not, _&&_}
@@ -17,7 +17,7 @@ use Rattle.pretree.specs.declared.leg.Place.{Place}
 use Rattle.pretree.specs.Table.{capacity, rowAt}
 use Rattle.pretree.specs.Leg.{belowPlace, linkEnd}
 use Rattle.pretree.specs.Seek.{bitsLeft}
-use Rattle.pretree.specs.Part.{ofPlace, rowTree, placeTree, counted, StandsSome}
+use Rattle.pretree.specs.Part.{ofPlace, rowTree, placeTree, counted, SomeWalkStands}
 use Rattle.pretree.proofs.Parts as parts
 use Rattle.pretree.proofs.whole.link_counted.Reads as link-counted
 use Rattle.pretree.proofs.whole.link_counted.Kinds as link-counted-kinds
@@ -134,7 +134,7 @@ module _ (t : ℕ) where
   of-requires : row-counted-lts.Need-of-requires (by-row t) (row-counted-at t) row-counted.Post Inv-loop μ-loop
   of-requires c κs = search needs
 
-  -- past the test of the loop: the row has a link, and its numbers say where its parts begin
+  -- past the test of the loop the row has a link; the places of its two parts
   module _ (c : row-counted-lts.Then1 (by-row t) (row-counted-at t) row-counted.Post Inv-loop μ-loop) where
     abbrev a : row-counted-lts.Args (by-row t) (row-counted-at t) row-counted.Post Inv-loop μ-loop (c .before .before .before .before .before .κs)
     a = c .before .before .before .before .before .args
@@ -157,7 +157,7 @@ module _ (t : ℕ) where
     abbrev place : Side → Place
     place s = belowPlace (ofPlace r (c .before .before .loop .mask)) r s
 
-    place-stands : (s : Side) → StandsSome (place s)
+    place-stands : (s : Side) → SomeWalkStands (place s)
     place-stands s = parts.side-place (rowAt (a .table .now)) (a .count) total (a .bits) r _ _ inv has small s
 
     mask-some : 0 < c .before .before .loop .mask
@@ -169,7 +169,7 @@ module _ (t : ℕ) where
   below-requires : row-counted-lts.Need-below-requires (by-row t) (row-counted-at t) row-counted.Post Inv-loop μ-loop
   below-requires c κs = rw (c .of .ensures) (mask-some (c .before), (place-room (c .before), omega arith))
 
-  -- the left part's place, as the code makes it
+  -- the place of the left part, as the code computes it
   lefts : (c : row-counted-lts.After-below (by-row t) (row-counted-at t) row-counted.Post Inv-loop μ-loop) → c .below .result ≡ place (c .before .before) left
   lefts c = rw (c .below .ensures, c .before .of .ensures)
 
@@ -182,7 +182,7 @@ module _ (t : ℕ) where
         (s .pre .1 .0, rw (lefts c) (place-stands (c .before .before) left)),
       )
 
-  -- and what was counted there
+  -- and what was counted in the left part
   count-left : (c : row-counted-lts.After-link-counted (by-row t) (row-counted-at t) row-counted.Post Inv-loop μ-loop)
       → c .link-counted .result ≡ counted (placeTree (rowAt (a (c .before .before .before) .table .now)) (a (c .before .before .before) .count) (place (c .before .before .before) left))
   count-left c = c .link-counted .ensures ∙ rw (lefts (c .before))

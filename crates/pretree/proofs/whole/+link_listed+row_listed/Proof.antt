@@ -1,4 +1,4 @@
--- `row_listed` and `link_listed` call each other. The mask falls: at a row the measure is twice the mask, at a link one more.
+-- `row_listed` and `link_listed` call each other, and the mask decreases: the measure is twice the mask at a row, and one more at a link.
 use Prim.Native.Nat.{ℕ, suc, _+_, _/_, _≤_, _<_}
 use mathlib.Core.Path.{_≡_, refl, sym, ap, _∙_, subst}
 use mathlib.Core.Bool.{true, false, not, _&&_}
@@ -53,7 +53,7 @@ by-link t = (row-listed-below t, row-listed.Post)
 abbrev by-row : ℕ → row-listed-lts.Claims
 by-row t = (row-at-reads.Asked, row-at-reads.Learnt, has-link-reads.Asked, has-link-reads.Learnt, link-listed-below t, link-listed.Post)
 
--- the tree of the row at which it began
+-- the tree of the row at which the call began
 abbrev whole : List ℕ → ℕ → ℕ → Tree
 whole table from bits = rowTree (rowAt table) (capacity table) (bitsLeft bits) from
 

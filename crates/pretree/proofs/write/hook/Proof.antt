@@ -1,4 +1,4 @@
--- With a row there is a link, and else nothing.
+-- If there is a row, its link is set; else nothing is written.
 use mathlib.Core.Path.{_≡_}
 use mathlib.Core.Bool.{true}
 use borrow.Author.Needs.{needs}

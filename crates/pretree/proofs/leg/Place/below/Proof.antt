@@ -1,4 +1,4 @@
--- By the side: the path takes a bit more to the right only.
+-- By the side: only to the right does the path get a one.
 use Prim.Native.Nat.{suc, _+_, _*_, _/_}
 use mathlib.Core.Path.{_≡_}
 use native.Mathlib.Numerals.{add-one}

@@ -1,4 +1,4 @@
--- The bits of the key under the mask are no more than the key.
+-- The key's bits under the mask are at most the key, so the subtraction does not overflow.
 use borrow.Author.Needs.{needs}
 use lib.Bits.{and-le-l}
 use Rattle.pretree.proofs.leg.Place.of.Statement.{statement}

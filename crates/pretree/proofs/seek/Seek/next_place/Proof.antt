@@ -1,4 +1,4 @@
--- The row that is wanted, or the right link left aside.
+-- The seek's next row, or the right link that it remembers.
 use lib.Bits.{and-le-l}
 use native.Mathlib.Numerals.{add-one}
 use borrow.Author.Tests.{ne-eqb}

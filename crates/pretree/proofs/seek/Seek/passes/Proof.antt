@@ -1,4 +1,4 @@
--- One number, held to two: a key that is not less than the word wraps round past `between`.
+-- One number is compared with two. If the key is the word or more, the number wraps round to at least `between`.
 use Prim.Native.Nat.{ℕ, suc, _+_, _-_, _≤_, _<_}
 use mathlib.Core.Path.{_≡_, refl}
 use mathlib.Core.Bool.{Bool, true, false, _&&_}

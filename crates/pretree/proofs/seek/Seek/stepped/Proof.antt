@@ -1,4 +1,4 @@
--- A right link is remembered if it is not 0 and the way turns left. What the code calls skipped is 0 where the way turns right.
+-- A right link is remembered if it is not 0 and the way turns left. `skipped` is 0 if the way turns right.
 use mathlib.Core.Path.{sym, _∙_}
 use mathlib.Core.Logic.{⊎-elim}
 use borrow.Author.Needs.{needs}

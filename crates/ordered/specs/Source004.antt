@@ -1,5 +1,5 @@
--- The ordered dictionary in the words of source 004: what it says of each operation, as a proposition about the elements of the set S.
--- proofs/Dictionary.antt proves it of the operation.
+-- The ordered dictionary in the words of source 004: what the source says of each operation, as a proposition about the elements of S.
+-- proofs/Dictionary.antt proves that the operations of specs/Dictionary.antt do this.
 use Prim.Native.Nat.{ℕ, _+_, _-_, _≤_}
 use mathlib.Core.Path.{_≡_}
 use mathlib.Core.Logic.{_↔_, _⊎_}
@@ -8,7 +8,6 @@ use mathlib.Core.List.{List, List·Memᴰ}
 use Rattle.ordered.specs.Such.{Perhaps, no-such, such}
 
 infix 4 _∈_
--- x is an element of s
 abbrev pub _∈_ : {A : Type 0} → A → List A → Type 0
 x ∈ s = List·Memᴰ x s
 
@@ -25,7 +24,7 @@ Whether P b = (b ≡ true) ↔ P
 abbrev pub Removes : ℕ → List ℕ → List ℕ → Type 0
 Removes x s t = (y : ℕ) → y ∈ t ↔ ((y ∈ s) × (y ≡ x → ⊥))
 
--- of the elements of s that pass the test p, the one that stands before all the others in an order; or that none passes
+-- the first, in the order `before`, of the elements of s that pass the test p; or no-such, if none passes
 pub data Foremost (before : ℕ → ℕ → Type 0) (p : ℕ → Bool) (s : List ℕ) : Perhaps ℕ → Type 0 where
   it-is : {y : ℕ} → y ∈ s → p y ≡ true → ((z : ℕ) → z ∈ s → p z ≡ true → before y z) → Foremost before p s (such y)
   none-is : ((z : ℕ) → z ∈ s → p z ≡ true → ⊥) → Foremost before p s no-such
@@ -40,12 +39,12 @@ Least = Foremost _≤_
 abbrev pub Greatest : (ℕ → Bool) → List ℕ → Perhaps ℕ → Type 0
 Greatest = Foremost (λ y z. z ≤ y)
 
--- how far two words lie apart: one of the two differences is 0
+-- the distance of two words. One of the two differences is 0.
 abbrev pub apart : ℕ → ℕ → ℕ
 apart x y = (x - y) + (y - x)
 
--- what document 01's `gap` comes to ("distance 0 if k is present [..] Else the smaller of the distances to `prev` and `next`"): the distance to
--- the nearest word, or that there is no word
+-- the distance to the nearest word, or no-such if there is no word. This is what document 01's `gap` amounts to: "distance 0 if k is present [..]
+-- Else the smaller of the distances to `prev` and `next`".
 pub data Nearest (k : ℕ) (s : List ℕ) : Perhaps ℕ → Type 0 where
   nearest-is : {y d : ℕ} → y ∈ s → d ≡ apart k y → ((z : ℕ) → z ∈ s → d ≤ apart k z) → Nearest k s (such d)
   no-nearest : ((z : ℕ) → z ∈ s → ⊥) → Nearest k s no-such

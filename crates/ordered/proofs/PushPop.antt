@@ -1,4 +1,5 @@
--- Push and pop: what a push and an erase leave of a proper part is proper, and has one entry more before the others, or lacks the first.
+-- Push and pop. After a push or an erase a proper part is still proper. A push puts one entry before all others, and an erase removes the
+-- first entry.
 use Prim.Native.Nat.{ℕ, zero, suc, _+_, _*_, _/_, _^_, _≤_, _<_}
 use mathlib.Core.Path.{_≡_, refl, ap}
 use mathlib.Core.Bool.{Bool, true, false}
@@ -12,7 +13,7 @@ use Rattle.ordered.specs.Tree.{Tree, none, row, damaged, part, exists, e
 use Rattle.ordered.specs.Proper.{Fitting, Proper}
 use Rattle.ordered.specs.Way.{Step, Way, Rule, stop, to, way, pushing, down}
 use Rattle.ordered.specs.Change.{Take, pushed, raised, left-over, entryAt}
-use Rattle.ordered.specs.Grown.{linking, linked, shifted, entry-below, lifted, pushed-tree, popped-tree}
+use Rattle.ordered.specs.Grown.{linking, chained, shifted, entry-below, lifted, pushed-tree, popped-tree}
 use Rattle.ordered.proofs.Bits.{to-part, from-part, left-below-right, whole-path}
 use Rattle.ordered.proofs.Parts.{All, AllWords, none-all, one-all, all-map}
 use Rattle.ordered.proofs.OneTree.{by-rows, keys-fit}
@@ -32,7 +33,7 @@ proper-leaf (suc m) path low n e fits =
     λ s. proper-none m (path * 2 + bitOf s) (suc (e .key)) in
     record { key-fits = fits; parts = elim [ left ↦ none-there left | right ↦ none-there right ] }
 
--- a row with another part on side s
+-- a row with its part on side s replaced
 pub linking-proper : (m path low i : ℕ) (e : Entry) (s : Side) (l r t : Tree) → Fitting (suc m) path low (e .key)
     → Proper m (path * 2 + bitOf (other s)) (suc (e .key)) (part (other s) l r)
     → Proper m (path * 2 + bitOf s) (suc (e .key)) t → Proper (suc m) path low (linking i e s l r t)
@@ -40,7 +41,7 @@ unfolding Proper
 linking-proper m path low i e left l r t fits beside h = record { key-fits = fits; parts = elim [ left ↦ h | right ↦ beside ] }
 linking-proper m path low i e right l r t fits beside h = record { key-fits = fits; parts = elim [ left ↦ beside | right ↦ h ] }
 
--- the least key may be any that is no greater than the keys
+-- `low` may be any number that is not greater than any key
 pub proper-from : (m path low low′ : ℕ) (t : Tree) → Proper m path low t → AllWords (λ x. low′ ≤ x) (entries t) → Proper m path low′ t
 unfolding Proper entries
 proper-from m path low low′ t h from =
@@ -62,15 +63,15 @@ none-left : (m path k : ℕ) {xs : List Entry} → k / 2 ^ m ≡ path * 2 + bitO
 none-left m path k on none-all = refl
 none-left m path k on (one-all {x} f fs) = absurd (omega (arith, f .not-below, left-below-right m path (x .key) k (f .on-path) on))
 
--- a push of an entry whose key is below all those of a part puts it before them
+-- a push of an entry whose key is less than all keys of a part puts it before all other entries
 Pushed : (n m : ℕ) → Tree → Way → Type 0
 Pushed n m t w =
     (e : Entry) (path : ℕ) → e .key / 2 ^ m ≡ path → Proper m path (suc (e .key)) t
-    → let g : Tree = linked (shifted e (w .passed)) (row n (left-over e (w .passed)) none none) in
+    → let g : Tree = chained (shifted e (w .passed)) (row n (left-over e (w .passed)) none none) in
     Proper m path (e .key) g × (entries g ≡ e ∷ entries t)
 
 push-ends : (n : ℕ) → At-end pushing (Pushed n)
-unfolding Pushed Proper pushing entries linked shifted left-over
+unfolding Pushed Proper pushing entries chained shifted left-over
 push-ends n zero none at-bottom e path on h =
     (proper-leaf zero path (e .key) n e (record { not-below = le-refl (e .key); on-path = on }), refl)
 push-ends n zero (row i o l r) at-bottom e path on h =
@@ -90,11 +91,11 @@ push-lists m path i o e right l r g on h rest =
     rw (rest, none-left m path (o .key) on (keys-fit m (path * 2 + bitOf left) (suc (o .key)) l h))
 
 push-goes : (n : ℕ) → Onward pushing (Pushed n)
-unfolding Pushed Proper pushing entries linked shifted left-over
+unfolding Pushed Proper pushing entries chained shifted left-over
 push-goes n m i o l r s says rest e path on h =
     let turn : side m (o .key) ≡ s = cc in
     let w : Way = way pushing m (part s l r) in
-    let g : Tree = linked (shifted o (w .passed)) (row n (left-over o (w .passed)) none none) in
+    let g : Tree = chained (shifted o (w .passed)) (row n (left-over o (w .passed)) none none) in
     let on-side : o .key / 2 ^ m ≡ path * 2 + bitOf s = to-part m (o .key) path s (h .key-fits .on-path) turn in
     let below : Proper m (path * 2 + bitOf s) (o .key) g × (entries g ≡ o ∷ entries (part s l r)) =
     rest o (path * 2 + bitOf s) on-side (h .parts s) in
@@ -119,7 +120,7 @@ module _ (n m path : ℕ) (e : Entry) (t : Tree) (on : e .key / 2 ^ m ≡ path) 
   unfolding pushed-tree Pushed
   push-entries = push-way n m t e path on h .1
 
--- the entry that a row takes from below is that of the part to which the way turns
+-- the entry that a row takes from below is the root entry of the part to which the way turns
 top-entry : (f : Rule) (m : ℕ) (t : Tree) → entry-below (way f m t .passed) (entryAt (way f m t .end)) ≡ entryAt t
 top-entry f =
     along f (λ m t w. entry-below (w .passed) (entryAt (w .end)) ≡ entryAt t) (λ m t ends. refl) (λ m i e l r s says rest. refl)
@@ -152,15 +153,15 @@ turned-there : (s : Side) (l r : Tree) → Turns-down s (exists l) (exists r) �
 turned-there left l r turn = turn
 turned-there right l r turn = turn .1
 
--- an erase takes the first entry of a part away
+-- an erase removes the first entry of a part
 Popped : ℕ → Tree → Way → Type 0
 Popped m t w =
     (path low : ℕ) → Proper m path low t → exists t ≡ true
-    → let g : Tree = linked (lifted (w .passed) (entryAt (w .end))) none in
+    → let g : Tree = chained (lifted (w .passed) (entryAt (w .end))) none in
     Proper m path (suc (entryAt t .key)) g × (entryAt t ∷ entries g ≡ entries t)
 
 pop-ends : At-end (down left) Popped
-unfolding Popped Proper entries down linked lifted
+unfolding Popped Proper entries down chained lifted
 pop-ends zero none at-bottom path low h there = let never : _≡_ {A = ℕ} 0 1 = cc in absurd (omega arith)
 pop-ends zero (row i e l r) at-bottom path low h there = (tt, rw (h .parts left, h .parts right))
 pop-ends zero damaged at-bottom path low h there = absurd h
@@ -192,12 +193,12 @@ pop-lists i e top left l r g turn rest = ap (λ xs. e ∷ (xs ++ entries r)) res
 pop-lists i e top right l r g turn rest = rw (absent-link l (turn .0)) (ap (λ xs. e ∷ xs) rest)
 
 pop-goes : Onward (down left) Popped
-unfolding Popped Proper linked lifted down
+unfolding Popped Proper chained lifted down
 pop-goes m i e l r s says rest path low h there =
     let turn : Turns-down s (exists l) (exists r) = turns-down s (exists l) (exists r) says in
     let some : exists (part s l r) ≡ true = turned-there s l r turn in
     let w : Way = way (down left) m (part s l r) in
-    let g : Tree = linked (lifted (w .passed) (entryAt (w .end))) none in
+    let g : Tree = chained (lifted (w .passed) (entryAt (w .end))) none in
     let top : Entry = entryAt (part s l r) in
     let on-side : ℕ = path * 2 + bitOf s in
     let fits : Fitting m on-side (suc (e .key)) (top .key) = top-fits m on-side (suc (e .key)) (part s l r) (h .parts s) some in
@@ -222,7 +223,7 @@ module _ (m path low : ℕ) (t : Tree) (h : Proper m path low t) (there : exists
   unfolding popped-tree Popped
   pop-entries = pop-way m t path low h there .1
 
--- what a push and an erase leave is what their takes say: each row that takes an entry has it
+-- each row with its own entry. After a push or an erase these are the entries that `pushed` and `raised` give to the rows.
 abbrev pub taken-by : List Step → List Take
 taken-by [] = []
 taken-by (s ∷ ss) = record { at = s .at; entry = s .entry } ∷ taken-by ss
@@ -238,8 +239,8 @@ lifted-takes [] hole = refl
 lifted-takes (s ∷ []) hole = refl
 lifted-takes (s ∷ (t ∷ ss)) hole = ap (λ ts. record { at = s .at; entry = t .entry } ∷ ts) (lifted-takes (t ∷ ss) hole)
 
--- and the rows of one way after another are linked as the rows of the joined way
-pub linked-append : (ss us : List Step) (t : Tree) → linked (ss ++ us) t ≡ linked ss (linked us t)
-unfolding linked
-linked-append [] us t = refl
-linked-append (s ∷ ss) us t = ap (linking (s .at) (s .entry) (s .turn) (s .left-part) (s .right-part)) (linked-append ss us t)
+-- chaining two lists of rows one after the other is chaining the joined list
+pub chained-append : (ss us : List Step) (t : Tree) → chained (ss ++ us) t ≡ chained ss (chained us t)
+unfolding chained
+chained-append [] us t = refl
+chained-append (s ∷ ss) us t = ap (linking (s .at) (s .entry) (s .turn) (s .left-part) (s .right-part)) (chained-append ss us t)

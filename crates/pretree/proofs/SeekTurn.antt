@@ -1,4 +1,4 @@
--- The turn by a word's bits is what its rule says; and the rules of document 01's ways by a word, each with its limit.
+-- `seekTurn` is the turn that the rule `seeking` says. The rules of document 01's two ways by a word are `seeking` with two limits.
 use Prim.Native.Nat.{ℕ, suc, pred, _≤_, _<_}
 use mathlib.Core.Path.{_≡_, refl, sym}
 use mathlib.Core.Bool.{Bool, true, false}

@@ -1,4 +1,4 @@
--- The turn down by the links is what its rule says.
+-- `downTurn` is the turn that the rule `down` says.
 use Prim.Native.Nat.{ℕ, suc}
 use mathlib.Core.Path.{_≡_, refl, sym}
 use mathlib.Core.Bool.{Bool, true, false, not}
