@@ -1,5 +1,5 @@
-// Compares a new capture with the one before it. When a generator falls silent, its buffer still holds the bytes of the chip before, and
-// the bench takes them for new ones: this lost the laboratory its bet. So compare each capture with the earlier one before testing it.
+// Compares a new capture with the one before it. When a generator falls silent, the buffer still holds the bytes of the chip before, and the bench
+// takes them for new ones. So compare each capture with the earlier one before testing it.
 // `stale` says whether nothing new came. `leading` returns the bytes that were there already.
 //
 // Document 01, "The ways", the last point. specs/Capture.antt quotes it and defines both answers.

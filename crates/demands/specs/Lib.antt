@@ -1,4 +1,5 @@
 -- The three demands, as statements about the definitions of the crates below. Their proofs are in proofs/.
+-- docs/PROMISES.md lists the statements, and docs/FORMAT.md explains the terms.
 -- 1. For every call and every header, table, word and buffer: each number 1 to 6 is given exactly when document 01 says, in its order. A
 --    refusal changes nothing. Words past the last row are never changed, and rows past the count stay zeros.
 -- 2. On a sound table of the set S: number, key and serial are those of the dictionary on S, and the call leaves a sound table of the

@@ -1,5 +1,5 @@
 // The line language of the bench: reading a line, and writing the reply to it.
-// Document 01, "The line program".
+// Document 01, "The line program"; docs/FORMAT.md, "The line language".
 
 // `answer`, `parse` and `reply` are public because crate `raw` uses them too.
 pub mod answer;

@@ -1,11 +1,13 @@
 -- The laws of a table's rows under the writes: what the written row holds afterwards; every other row, every word past the rows and the length stay.
 -- Other files and crates use these laws and look at no single word of a row.
-use Prim.Native.Nat.{ℕ, suc, _+_, _*_, _≤_, _<_}
+use Prim.Native.Nat.{ℕ, zero, suc, _+_, _*_, _≤_, _<_}
 use mathlib.Core.Path.{_≡_, refl, ap, _∙_}
 use mathlib.Core.List.{List, [], _∷_, _++_}
+use mathlib.Core.Logic.{_⊎_, inl, inr}
+use native.Mathlib.Nat.{add-zero, mul-suc, mul-zero}
 use native.Mathlib.Omega.{arith}
 use lib.ListN.{length, getD, set, length-set}
-use lib.Seq.{getD-set-same, getD-set-other, length-sets, set-getD, getD-append-seam, getD-append-add}
+use lib.Seq.{sets, getD-set-same, getD-set-other, length-sets, set-getD, getD-append-seam, getD-append-add}
 use Rattle.ordered.specs.Such.{Perhaps, no-such, such}
 use Rattle.ordered.specs.Dictionary.{Entry}
 use Rattle.ordered.specs.Word.{Side, left, right, bitOf}
@@ -15,6 +17,35 @@ use Rattle.ordered.proofs.Parts.{All, none-all, one-all}
 use Rattle.pretree.specs.declared.Row.{Row}
 use Rattle.pretree.specs.Table.{rowWords, capacity, toCode, rowAt, link, withEntry, withSerial, withLink, withRow, cleared}
 use Rattle.pretree.specs.Add.{taking, hooking}
+
+-- Rows of any number of words, as document 02 §14 has them: a list of words is stored from the table word `at` on.
+-- Each word before and after them stays,
+stored-outside : (ws table : List ℕ) (at p : ℕ) → (p < at) ⊎ (at + length ws ≤ p) → getD (sets table at ws) p 0 ≡ getD table p 0
+stored-outside [] table at p out = refl
+stored-outside (w ∷ ws) table at p (inl before) =
+    stored-outside ws (set table at w) (suc at) p (inl (omega arith)) ∙ getD-set-other table at p w 0 (λ e. omega arith)
+stored-outside (w ∷ ws) table at p (inr after) =
+    stored-outside ws (set table at w) (suc at) p (inr (omega arith)) ∙ getD-set-other table at p w 0 (λ e. omega arith)
+
+-- and each of them is read back.
+read-back : (ws table : List ℕ) (at j : ℕ) → at + length ws ≤ length table → j < length ws → getD (sets table at ws) (at + j) 0 ≡ getD ws j 0
+read-back (w ∷ ws) table at zero room in-row =
+    rw (add-zero at) (stored-outside ws (set table at w) (suc at) at (inl (omega arith)) ∙ getD-set-same table at w 0 (omega arith))
+read-back (w ∷ ws) table at (suc j) room in-row =
+    let place : at + suc j ≡ suc at + j = omega arith in
+    rw place (read-back ws (set table at w) (suc at) j (omega (arith, length-set table at w)) (omega arith))
+
+-- Two rows have no word in common, however many words a row has.
+rows-apart : (wide i l j : ℕ) → (l ≡ i → ⊥) → j < wide → (wide * l + j < wide * i) ⊎ (wide * i + wide ≤ wide * l + j)
+rows-apart wide zero zero j apart in-row = absurd (apart refl)
+rows-apart wide zero (suc l) j apart in-row = inr (rw (mul-suc wide l, mul-zero wide) (omega arith))
+rows-apart wide (suc i) zero j apart in-row = inl (rw (mul-suc wide i, mul-zero wide) (omega (arith, in-row)))
+rows-apart wide (suc i) (suc l) j apart in-row = go (rows-apart wide i l j (λ e. apart (ap suc e)) in-row)
+  where
+    go : (wide * l + j < wide * i) ⊎ (wide * i + wide ≤ wide * l + j)
+        → (wide * suc l + j < wide * suc i) ⊎ (wide * suc i + wide ≤ wide * suc l + j)
+    go (inl h) = inl (omega (arith, h, mul-suc wide i, mul-suc wide l))
+    go (inr h) = inr (omega (arith, h, mul-suc wide i, mul-suc wide l))
 
 -- row i is in the table
 abbrev pub HasRow : List ℕ → ℕ → Type 0
@@ -35,6 +66,10 @@ holding e r = record { entry = toCode e; left = r .left; right = r .right }
 abbrev pub linking : Side → ℕ → Row → Row
 linking left j r = record { entry = r .entry; left = j; right = r .right }
 linking right j r = record { entry = r .entry; left = r .left; right = j }
+
+-- a row as words
+abbrev pub rowAsWords : Row → List ℕ
+rowAsWords r = r .entry .key ∷ r .left ∷ r .right ∷ r .entry .serial ∷ []
 
 -- the row that is written
 module _ (i : ℕ) (table : List ℕ) (room : HasRow table i) where
@@ -94,43 +129,9 @@ module _ (i : ℕ) (table : List ℕ) (room : HasRow table i) where
   pub row-written : (r : Row) → rowAt (withRow i r table) i ≡ r
   unfolding rowAt withRow
   row-written r =
-      let a : ℕ = suc at in
-      let b : ℕ = suc (suc at) in
-      let c : ℕ = suc (suc (suc at)) in
-      let k : List ℕ = set table at (r .entry .key) in
-      let l : List ℕ = set k a (r .left) in
-      let m : List ℕ = set l b (r .right) in
-      let long-k : length k ≡ length table = length-set table at (r .entry .key) in
-      let long-l : length l ≡ length k = length-set k a (r .left) in
-      let long-m : length m ≡ length l = length-set l b (r .right) in
-      let one : at + 1 ≡ a = omega arith in
-      let two : at + 2 ≡ b = omega arith in
-      let three : at + 3 ≡ c = omega arith in
-      let fits-k : at < length table = omega arith in
-      let fits-l : a < length k = omega (arith, long-k) in
-      let fits-m : b < length l = omega (arith, long-k, long-l) in
-      let fits-s : c < length m = omega (arith, long-k, long-l, long-m) in
-      let k1 : at ≡ a → ⊥ = λ e. omega arith in
-      let k2 : at ≡ b → ⊥ = λ e. omega arith in
-      let k3 : at ≡ c → ⊥ = λ e. omega arith in
-      let l2 : a ≡ b → ⊥ = λ e. omega arith in
-      let l3 : a ≡ c → ⊥ = λ e. omega arith in
-      let r3 : b ≡ c → ⊥ = λ e. omega arith in
-      rw (
-        one,
-        two,
-        three,
-        getD-set-other m c at (r .entry .serial) 0,
-        getD-set-other l b at (r .right) 0,
-        getD-set-other k a at (r .left) 0,
-        getD-set-same table at (r .entry .key) 0,
-        getD-set-other m c a (r .entry .serial) 0,
-        getD-set-other l b a (r .right) 0,
-        getD-set-same k a (r .left) 0,
-        getD-set-other m c b (r .entry .serial) 0,
-        getD-set-same l b (r .right) 0,
-        getD-set-same m c (r .entry .serial) 0,
-      )
+      let ws : List ℕ = rowAsWords r in
+      let first : getD (sets table at ws) at 0 ≡ r .entry .key = rw (add-zero at) at (read-back ws table at 0 room (omega arith)) in
+      rw (first, read-back ws table at 1 room (omega arith), read-back ws table at 2 room (omega arith), read-back ws table at 3 room (omega arith))
 
 -- every other row
 module _ (i : ℕ) (table : List ℕ) (l : ℕ) (apart : l ≡ i → ⊥) where
@@ -160,16 +161,13 @@ module _ (i : ℕ) (table : List ℕ) (l : ℕ) (apart : l ≡ i → ⊥) where
   link-elsewhere right j = word-elsewhere (rowWords * i + 1 + 1) j table (omega arith) (omega arith)
 
   pub row-elsewhere : (r : Row) → rowAt (withRow i r table) l ≡ rowAt table l
-  unfolding withRow
+  unfolding withRow rowAt
   row-elsewhere r =
-      let at : ℕ = rowWords * i in
-      let k : List ℕ = set table at (r .entry .key) in
-      let l : List ℕ = set k (suc at) (r .left) in
-      let m : List ℕ = set l (suc (suc at)) (r .right) in
-      word-elsewhere (suc (suc (suc at))) (r .entry .serial) m (omega arith) (omega arith)
-      ∙ word-elsewhere (suc (suc at)) (r .right) l (omega arith) (omega arith)
-      ∙ word-elsewhere (suc at) (r .left) k (omega arith) (omega arith)
-      ∙ word-elsewhere at (r .entry .key) table (omega arith) (omega arith)
+      let stays : (j : ℕ) → j < rowWords → getD (sets table (rowWords * i) (rowAsWords r)) (rowWords * l + j) 0 ≡ getD table (rowWords * l + j) 0
+      = λ j in-row. stored-outside (rowAsWords r) table (rowWords * i) (rowWords * l + j) (rows-apart rowWords i l j apart in-row) in
+      let first : getD (sets table (rowWords * i) (rowAsWords r)) (rowWords * l) 0 ≡ getD table (rowWords * l) 0
+      = rw (add-zero (rowWords * l)) at (stays 0 (omega arith)) in
+      rw (first, stays 1 (omega arith), stays 2 (omega arith), stays 3 (omega arith))
 
 -- a write of an entry leaves every link
 pub link-stays : (i : ℕ) (e : Entry) (table : List ℕ) (j : ℕ) (s : Side) → link (rowAt (withEntry i e table) j) s ≡ link (rowAt table j) s
@@ -215,7 +213,7 @@ link-length i s j table = length-set table (rowWords * i + 1 + bitOf s) j
 
 pub row-length : (i : ℕ) (r : Row) (table : List ℕ) → length (withRow i r table) ≡ length table
 unfolding withRow
-row-length i r table = length-sets table (rowWords * i) (r .entry .key ∷ r .left ∷ r .right ∷ r .entry .serial ∷ [])
+row-length i r table = length-sets table (rowWords * i) (rowAsWords r)
 
 pub taking-length : (ts : List Take) (table : List ℕ) → length (taking ts table) ≡ length table
 unfolding taking
@@ -244,13 +242,7 @@ module _ (c p : ℕ) (past : rowWords * c ≤ p) (i : ℕ) (used : i < c) (table
 
   pub row-past : (r : Row) → getD (withRow i r table) p 0 ≡ getD table p 0
   unfolding withRow
-  row-past r =
-      let at : ℕ = rowWords * i in
-      let k : List ℕ = set table at (r .entry .key) in
-      let l : List ℕ = set k (suc at) (r .left) in
-      let m : List ℕ = set l (suc (suc at)) (r .right) in
-      word-past (suc (suc (suc at))) (r .entry .serial) m (omega arith) ∙ word-past (suc (suc at)) (r .right) l (omega arith)
-      ∙ word-past (suc at) (r .left) k (omega arith) ∙ word-past at (r .entry .key) table (omega arith)
+  row-past r = stored-outside (rowAsWords r) table (rowWords * i) p (inr (omega arith))
 
 -- two tables with the same words in a row have the same row there
 pub same-row :
@@ -277,15 +269,11 @@ zero-row table i zeros =
       zeros (rowWords * i + 3) (omega arith) (omega arith),
     )
 
--- a row as words
-abbrev pub rowAsWords : Row → List ℕ
-rowAsWords r = r .entry .key ∷ r .left ∷ r .right ∷ r .entry .serial ∷ []
-
--- what holds for its key, its serial and both links holds for each of its words
+-- what holds for a row's key, its serial and both links holds for each of its words
 pub each-in-row : (P : ℕ → Type 0) (r : Row) → P (r .entry .key) → P (r .entry .serial) → ((s : Side) → P (link r s)) → All P (rowAsWords r)
 each-in-row P r own stored links = one-all own (one-all (links left) (one-all (links right) (one-all stored none-all)))
 
--- the row that is read where those words are
+-- the row that is read where its words are
 pub row-read : (i : ℕ) (r : Row) (before rest : List ℕ) → length before ≡ rowWords * i → rowAt (before ++ (rowAsWords r ++ rest)) i ≡ r
 unfolding rowAt
 row-read i r before rest at =

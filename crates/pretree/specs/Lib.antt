@@ -1,4 +1,5 @@
 -- What each call answers and leaves on every table, damaged ones too. Read in this order.
+-- docs/FORMAT.md says the same in plain words.
 pub mod Table
 pub mod Unfold
 pub mod Sound

@@ -1,5 +1,6 @@
 // The ordered set of words of 1 to 32 bits, as a PreTree in a lent table of rows.
 // This file has the types of document 01, "Header and table" and "Answer numbers". The calls are in the modules.
+// docs/FORMAT.md describes the table, the ways, the calls and the answers, and says what documents 01 and 02 are.
 
 mod add;
 mod erase;
