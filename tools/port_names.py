@@ -131,7 +131,7 @@ def table(root):
     for w in names:
         if NAME.match(w) and (spelled(w) != w):
             made[w] = spelled(w)
-    for w in ("ref-ptr", "ghost-name"):
+    for w in ("ref-ptr", "ghost-name", "not-nil", "suc-suc"):  # the library's, behind a dot
         made.pop(w, None)
     return made
 
