@@ -2,20 +2,21 @@
 -- answer on the entries of the tree.
 use Prim.Native.Nat.{ℕ, zero, suc, ◌+◌, ◌*◌, ◌/◌, ◌^◌}
 use mathlib.Core.Path.{◌≡◌, refl, sym, ap, ap₂, ◌∙◌}
-use mathlib.Core.Bool.{Bool, true, false, ◌||◌}
+use mathlib.Core.Bool.{Bool, true, false}
 use mathlib.Core.List.{List, [], ◌∷◌, ◌++◌, append-nil}
 use native.Mathlib.Omega.{arith}
 use lib.Dec.{ltb, leb, eqb}
-use borrow.Author.Tests.{ltb-true, ltb-false, leb-true, leb-false, eqb-true, lt-ltb, le-ltb, eq-eqb, ne_eqb}
-use Rattle.ordered.specs.Such.{if◌then◌else◌, is_there, its, Perhaps, no_such, such, first_of, only_if, first_such, last_such, anything}
+use borrow.Author.Tests.{ltb-true, ltb-false, leb-true, leb-false, lt-ltb, le-ltb, eq-eqb, ne_eqb}
+use Rattle.std.specs.Prelude.{if◌then◌else◌}
+use Rattle.ordered.specs.Such.{is_there, its, Perhaps, no_such, such, first_of, only_if, first_such, last_such, anything}
 use Rattle.ordered.specs.Word.{Side, left, right, bit_of, is_side}
-use Rattle.ordered.specs.Dictionary.{Entry, words, word_of, lookup, min, max, successor, predecessor}
+use Rattle.ordered.specs.Dictionary.{Entry, word_of, lookup, min, max, successor, predecessor}
 use Rattle.ordered.specs.Tree.{Tree, none, row, damaged, part, exists, entries}
 use Rattle.ordered.specs.Proper.{Proper}
 use Rattle.ordered.specs.Way.{Step, Way, stop, to, way, turning, is_damaged, joined, following, passing_equal, pushing, down, staying}
 use Rattle.ordered.specs.Reading.{Found, word_in, entry_in, root_row, end_row, end_if, has, skipped_right, right_child, next_by, next, prev_by, prev, first, last, nearest, gap_by, gap}
 use Rattle.ordered.specs.Change.{way_ends_at, adding_by, adding, erasing_by, erasing}
-use Rattle.ordered.proofs.Parts.{All, AllWords, none_all, one_all, all_map, above_all, first_of_no_such, first_of_such, first_such_append, last_such_append, same_last, no_last, IfSuch, last_such_all, last_such_one, first_between, last_between, no_lookup, lookup_between}
+use Rattle.ordered.proofs.Parts.{All, AllWords, none_all, one_all, all_map, above_all, first_of_such, first_such_append, last_such_append, same_last, no_last, IfSuch, last_such_all, last_such_one, first_between, last_between, no_lookup, lookup_between}
 use Rattle.ordered.proofs.OneTree.{by_rows, proper_intact}
 use Rattle.ordered.proofs.Ways.{step, left_aside, right_aside, lower, upper, parted, ProperStep, passed_proper, and_true, intact_here, passed_pass, following_seeks}
 use Rattle.ordered.proofs.Sought.{Ends, at_no_row, at_last_bit, at_key, Sought, way_of, way_past}

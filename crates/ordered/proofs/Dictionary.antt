@@ -11,7 +11,8 @@ use native.Mathlib.Nat.{le_antisymm, le_of_lt}
 use native.Mathlib.Omega.{arith}
 use lib.Dec.{ltb, eqb}
 use borrow.Author.Tests.{eqb-true, eqb-false, eq-eqb, ne_eqb}
-use Rattle.ordered.specs.Such.{if◌then◌else◌, Perhaps, no_such, such, its, is_there, first_of, only_if, first_such, last_such, anything}
+use Rattle.std.specs.Prelude.{if◌then◌else◌}
+use Rattle.ordered.specs.Such.{Perhaps, no_such, such, its, is_there, first_of, only_if, first_such, last_such, anything}
 use Rattle.ordered.specs.Dictionary.{Entry, words, word_of, Above, none_above, one_above, Increasing, none_increasing, one_increasing}
 use Rattle.ordered.specs.Dictionary.{insert, is_empty, lookup, delete, max, min, successor, predecessor}
 use Rattle.ordered.specs.Source004.{◌∈◌, Adds, Whether, Removes, Foremost, it_is, none_is, Least, Greatest}
@@ -83,7 +84,7 @@ there_either false e q = refl
 -- "lookup(x), which returns whether x ∈ S"
 pub lookup_whether : (x : ℕ) (s : List Entry) → Whether (x ∈ words s) (is_there (lookup x s))
 unfolding lookup first_such
-lookup_whether x [] = (λ e. absurd (false≢true e), λ m. absurd (Memᴰ.not_nil m))
+lookup_whether x [] = (λ e. absurd (false≢true e), λ m. absurd (Memᴰ.not-nil m))
 lookup_whether x (e ∷ s) =
     rw (there_either (eqb x e.key) e (lookup x s))
     (Iff.trans (whether_either (eqb x e.key) (is_there (lookup x s)) (eqb-true x e.key, eq-eqb x e.key) (lookup_whether x s)) (Iff.symm cons_elements))
@@ -105,7 +106,7 @@ tail_removes n h z = (
 -- "delete(x), which removes x from S"
 pub delete_removes : (x : ℕ) (s : List Entry) → Removes x (words s) (words (delete x s))
 unfolding delete
-delete_removes x [] = λ z. (λ m. absurd (Memᴰ.not_nil m), λ k. k.0)
+delete_removes x [] = λ z. (λ m. absurd (Memᴰ.not-nil m), λ k. k.0)
 delete_removes x (e ∷ s) =
     by_test (λ t. Removes x (e.key ∷ words s) (words t)) (eqb x e.key)
     (λ q. head_removes (eqb-true x e.key q) (delete_removes x s))
@@ -146,7 +147,7 @@ foremost_of_one {before} p {x} itself =
 -- the first word of an increasing list that passes a test is the least that passes it
 first_such_least : (p : ℕ → Bool) {s : List ℕ} → Increasing s → Least p s (first_such p s)
 unfolding first_such
-first_such_least p none_increasing = none_is (λ z m e. Memᴰ.not_nil m)
+first_such_least p none_increasing = none_is (λ z m e. Memᴰ.not-nil m)
 first_such_least p (one_increasing {x} {xs} a h) =
     foremost_of_both (foremost_of_one p (λ y e. omega arith)) (first_such_least p h)
     (λ y z m n. omega (arith, Memᴰ.eq_of_singleton m, above_less a n))
@@ -155,7 +156,7 @@ first_such_least p (one_increasing {x} {xs} a h) =
 -- the last is the greatest that passes it
 last_such_greatest : (p : ℕ → Bool) {s : List ℕ} → Increasing s → Greatest p s (last_such p s)
 unfolding last_such
-last_such_greatest p none_increasing = none_is (λ z m e. Memᴰ.not_nil m)
+last_such_greatest p none_increasing = none_is (λ z m e. Memᴰ.not-nil m)
 last_such_greatest p (one_increasing {x} {xs} a h) =
     foremost_of_both (last_such_greatest p h) (foremost_of_one p (λ y e. omega arith))
     (λ y z m n. omega (arith, Memᴰ.eq_of_singleton n, above_less a m))
@@ -231,8 +232,8 @@ tail_among q a h z m =
 -- two increasing lists with the same elements are equal: a set is determined by its elements
 pub same_elements : {s t : List ℕ} → Increasing s → Increasing t → ((z : ℕ) → z ∈ s ↔ z ∈ t) → s ≡ t
 same_elements none_increasing none_increasing same = refl
-same_elements none_increasing (one_increasing {x = y} b k) same = absurd (Memᴰ.not_nil ((same y).1 (Memᴰ.head refl)))
-same_elements (one_increasing {x} a h) none_increasing same = absurd (Memᴰ.not_nil ((same x).0 (Memᴰ.head refl)))
+same_elements none_increasing (one_increasing {x = y} b k) same = absurd (Memᴰ.not-nil ((same y).1 (Memᴰ.head refl)))
+same_elements (one_increasing {x} a h) none_increasing same = absurd (Memᴰ.not-nil ((same x).0 (Memᴰ.head refl)))
 same_elements (one_increasing {x} {xs} a h) (one_increasing {x = y} {xs = ys} b k) same =
     ap₂ ◌∷◌ heads (same_elements h k (λ z. (tail_among heads a (λ w. (same w).0) z, tail_among (sym heads) b (λ w. (same w).1) z)))
   where

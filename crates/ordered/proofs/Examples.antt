@@ -1,15 +1,15 @@
 -- Tests by computation: the trees of document 01's sets A, B and C, and the calls over them. They catch the must-fail edits of a tree, a way
 -- or a change. The general laws are in the other files. (The starred examples are about replies on tables; they are in crate `pretree`.)
 use Prim.Native.Nat.{ℕ, ◌+◌}
-use mathlib.Core.Path.{◌≡◌, refl}
+use mathlib.Core.Path.{refl}
 use mathlib.Core.List.{List, [], ◌∷◌}
 use Rattle.ordered.specs.Example.{Example, ◌is◌, AllAgree}
-use Rattle.ordered.specs.Such.{Perhaps, no_such, such, its, last_such}
+use Rattle.ordered.specs.Such.{Perhaps, no_such, such, last_such}
 use Rattle.ordered.specs.Word.{Side, left, right, side}
 use Rattle.ordered.specs.Dictionary.{Entry}
 use Rattle.ordered.specs.Tree.{Tree, none, row, tree_of, going}
 use Rattle.ordered.specs.Way.{Step, way, rows, joined, following, passing_equal, pushing, down, staying}
-use Rattle.ordered.specs.Reading.{Found, Reading, word_in, rows_of, has, next, prev, first, last, gap}
+use Rattle.ordered.specs.Reading.{Found, Reading, rows_of, has, next, prev, first, last, gap}
 use Rattle.ordered.specs.Grown.{tree_after_add, tree_after_del, pushed_tree, popped_tree, chained, shifted, lifted}
 use Rattle.ordered.specs.Change.{Take, Adding, Erasing, adding, erasing, pushed, left_over, raised}
 

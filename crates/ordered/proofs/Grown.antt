@@ -2,11 +2,12 @@
 use Prim.Native.Nat.{ℕ, zero, suc, ◌+◌, ◌*◌, ◌/◌, ◌^◌, ◌≤◌, ◌<◌}
 use mathlib.Core.Path.{◌≡◌, refl, sym, ap, ◌∙◌}
 use mathlib.Core.Bool.{Bool, true, false}
-use mathlib.Core.List.{List, ◌∷◌, ◌++◌}
+use mathlib.Core.List.{List, ◌++◌}
 use native.Mathlib.Omega.{arith}
 use lib.Dec.{ltb, eqb}
 use borrow.Author.Tests.{ltb-true, ltb-false, eqb-true, eqb-false, le-ltb, eq-eqb, ne_eqb}
-use Rattle.ordered.specs.Such.{if◌then◌else◌, is_there, no_such, such, only_if}
+use Rattle.std.specs.Prelude.{if◌then◌else◌}
+use Rattle.ordered.specs.Such.{is_there, no_such, such, only_if}
 use Rattle.ordered.specs.Word.{bit_of, side, other}
 use Rattle.ordered.specs.Dictionary.{Entry, insert, delete}
 use Rattle.ordered.specs.Tree.{Tree, row, part, exists, entries, unnumbered, tree_of}
@@ -16,7 +17,7 @@ use Rattle.ordered.specs.Reading.{Found, word_in, root_row}
 use Rattle.ordered.specs.Change.{entry_at}
 use Rattle.ordered.specs.Grown.{storing, chained, pushed_tree, popped_tree, tree_after_add, tree_after_del}
 use Rattle.ordered.proofs.Bits.{to_part}
-use Rattle.ordered.proofs.Parts.{All, AllWords, none_all, one_all, all_map, above_all, insert_before, insert_between, delete_absent, delete_between}
+use Rattle.ordered.proofs.Parts.{AllWords, none_all, one_all, all_map, above_all, insert_before, insert_between, delete_absent, delete_between}
 use Rattle.ordered.proofs.OneTree.{keys_fit, one_tree}
 use Rattle.ordered.proofs.Ways.{AtEnd, Onward, along, lower, upper, chained_entries, parted, turns_so, following_seeks}
 use Rattle.ordered.proofs.Sought.{Ends, at_no_row, at_last_bit, at_key, Sought, way_of}

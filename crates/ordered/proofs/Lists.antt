@@ -9,7 +9,7 @@ use native.Mathlib.Nat.{le_of_lt, lt_of_le_of_lt}
 use native.Mathlib.Omega.{arith}
 use lib.Dec.{ltb, eqb}
 use borrow.Author.Tests.{ltb-true, ltb-false, eqb-true, eqb-false}
-use Rattle.ordered.specs.Such.{if◌then◌else◌}
+use Rattle.std.specs.Prelude.{if◌then◌else◌}
 use Rattle.ordered.specs.Dictionary.{Above, none_above, one_above, Increasing, none_increasing, one_increasing}
 use Rattle.ordered.specs.Source004.{◌∈◌}
 
@@ -37,6 +37,7 @@ pub append_elements : {A : Type 0} {y : A} (s t : List A) → y ∈ s ++ t ↔ (
 append_elements s t = (Memᴰ.append_cases s, ⊎_elim (Memᴰ.append_left t) (Memᴰ.append_right s))
 
 pub above_less : {x y : ℕ} {s : List ℕ} → Above x s → y ∈ s → x < y
+above_less none_above m = elim m [ ]
 above_less (one_above h a) (Memᴰ.head e) = omega arith
 above_less (one_above h a) (Memᴰ.tail m) = above_less a m
 
@@ -64,7 +65,7 @@ append_increasing {t} (one_increasing {x} {xs} a h) k across =
 
 -- the converse
 pub increasing_parts : (s t : List ℕ) → Increasing (s ++ t) → Increasing s × Increasing t × ((x y : ℕ) → x ∈ s → y ∈ t → x < y)
-increasing_parts [] t h = (none_increasing, h, λ x y m n. absurd (Memᴰ.not_nil m))
+increasing_parts [] t h = (none_increasing, h, λ x y m n. absurd (Memᴰ.not-nil m))
 increasing_parts (x ∷ xs) t (one_increasing a h) =
     let parts = increasing_parts xs t h in
     let above : Above x xs = less_above xs (λ y m. above_less a (Memᴰ.append_left t m)) in

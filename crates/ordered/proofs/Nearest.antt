@@ -1,15 +1,15 @@
 -- The distance that `gap` answers is the distance to the nearest word of the set.
-use Prim.Native.Nat.{ℕ, ◌+◌, ◌-◌, ◌≤◌, ◌<◌, min}
+use Prim.Native.Nat.{ℕ, ◌-◌, ◌≤◌, ◌<◌, min}
 use mathlib.Core.Path.{◌≡◌, refl, sym, ◌∙◌, subst}
 use mathlib.Core.Bool.{Bool, true, false, true≢false}
 use mathlib.Core.List.{List}
-use mathlib.Core.Logic.{◌↔◌}
 use native.Mathlib.Omega.{arith}
 use lib.Dec.{ltb, leb}
 use borrow.Author.Tests.{lt-ltb, ltb-true, ltb-false, leb-true, leb-false}
-use Rattle.ordered.specs.Such.{if◌then◌else◌, Perhaps, no_such, such, is_there}
+use Rattle.std.specs.Prelude.{if◌then◌else◌}
+use Rattle.ordered.specs.Such.{Perhaps, such, is_there}
 use Rattle.ordered.specs.Dictionary.{Entry, words, word_of, Increasing, lookup, successor, predecessor}
-use Rattle.ordered.specs.Source004.{◌∈◌, Foremost, it_is, none_is, Least, Greatest, apart, Nearest, nearest_is, no_nearest}
+use Rattle.ordered.specs.Source004.{◌∈◌, it_is, none_is, Least, Greatest, apart, Nearest, nearest_is, no_nearest}
 use Rattle.ordered.specs.Reading.{nearest}
 use Rattle.ordered.proofs.Dictionary.{lookup_whether, successor_least, predecessor_greatest}
 

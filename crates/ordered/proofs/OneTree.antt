@@ -7,7 +7,7 @@ use mathlib.Core.Bool.{Bool, true, false}
 use mathlib.Core.List.{List, [], ◌∷◌, ◌++◌, append-nil}
 use native.Mathlib.Omega.{arith}
 use lib.ListN.{length, length-append}
-use Rattle.ordered.specs.Such.{if◌then◌else◌}
+use Rattle.std.specs.Prelude.{if◌then◌else◌}
 use Rattle.ordered.specs.Word.{Side, left, right, bit_of, side, other, is_side}
 use Rattle.ordered.specs.Dictionary.{Entry, words, Above, none_above, one_above, Increasing, none_increasing, one_increasing}
 use Rattle.ordered.specs.Tree.{Tree, none, row, damaged, part, entries, listing, size, intact, unnumbered, going, tree_of}

@@ -6,8 +6,9 @@ use mathlib.Core.List.{List, [], ◌∷◌, ◌++◌, Memᴰ}
 use native.Mathlib.Omega.{arith}
 use lib.Dec.{ltb, eqb}
 use borrow.Author.Tests.{lt-ltb, le-ltb, ne_eqb}
-use Rattle.ordered.specs.Such.{if◌then◌else◌, Perhaps, no_such, such, first_of, only_if, first_such, last_such, anything}
-use Rattle.ordered.specs.Dictionary.{Entry, words, Above, none_above, one_above, Increasing, none_increasing, one_increasing, insert, lookup, delete}
+use Rattle.std.specs.Prelude.{if◌then◌else◌}
+use Rattle.ordered.specs.Such.{Perhaps, no_such, such, first_of, only_if, first_such, last_such, anything}
+use Rattle.ordered.specs.Dictionary.{Entry, words, Above, none_above, one_above, Increasing, one_increasing, insert, lookup, delete}
 
 -- P holds of every element
 pub data All {A : Type 0} (P : A → Type 0) : List A → Type 0 where
@@ -29,6 +30,7 @@ module _ {A : Type 0} where
 
   -- from all elements to each one, and back
   pub each_of_all : {P : A → Type 0} {xs : List A} {x : A} → All P xs → Memᴰ x xs → P x
+  each_of_all none_all i = elim i [ ]
   each_of_all {P} (one_all h hs) (Memᴰ.head e) = rw e h
   each_of_all (one_all h hs) (Memᴰ.tail i) = each_of_all hs i
 

@@ -7,7 +7,8 @@ use mathlib.Core.Bool.{Bool, true, false, false≢true, ◌&&◌}
 use mathlib.Core.List.Memᴰ
 use mathlib.Core.List.{List, [], ◌∷◌, ◌++◌, map}
 use lib.Dec.{ltb, eqb}
-use Rattle.ordered.specs.Such.{if◌then◌else◌, Perhaps, no_such, such, first_of, only_if, last_such}
+use Rattle.std.specs.Prelude.{if◌then◌else◌}
+use Rattle.ordered.specs.Such.{Perhaps, no_such, such, first_of, only_if, last_such}
 use Rattle.ordered.specs.Word.{Side, left, right, is_side}
 use Rattle.ordered.specs.Source004.{◌∈◌, Whether}
 use Rattle.ordered.specs.Dictionary.{Entry}
@@ -79,9 +80,10 @@ pub record CutErasing (Bad : ℕ → Type 0) (σ : ℕ → ℕ) (a a' : Erasing)
 -- every way reads the row where it begins
 start_read : (f : Rule) (m : ℕ) (t : Tree) {i : ℕ} → i ∈ end_number t → i ∈ read_on (way f m t)
 unfolding way read_on
-start_read f m none there = absurd (Memᴰ.not_nil there)
-start_read f m damaged there = absurd (Memᴰ.not_nil there)
+start_read f m none there = absurd (Memᴰ.not-nil there)
+start_read f m damaged there = absurd (Memᴰ.not-nil there)
 start_read f zero (row j e l r) there = there
+start_read f (suc m) (row j e l r) (Memᴰ.tail there) = elim there [ ]
 start_read f (suc m) (row j e l r) {i} (Memᴰ.head same) = turned (f m e l r)
   where
     turned : (c : Turn) → i ∈ read_on (turning (way f m) m j e l r c)
@@ -160,7 +162,7 @@ module _ {Bad : ℕ → Type 0} where
       still (s ∷ ss) (Memᴰ.tail there) = Memᴰ.tail (still ss there)
 
   none_empty : ¬ Some Bad []
-  none_empty (i, there, bad) = Memᴰ.not_nil there
+  none_empty (i, there, bad) = Memᴰ.not-nil there
 
   none_cons : {i : ℕ} {is : List ℕ} → ¬ Bad i → ¬ Some Bad is → ¬ Some Bad (i ∷ is)
   none_cons good rest (j, Memᴰ.head same, bad) = good (rw same at bad)

@@ -6,7 +6,7 @@ use mathlib.Core.Bool.{Bool, true, false}
 use mathlib.Core.List.{List, [], ◌∷◌, ◌++◌}
 use native.Mathlib.Nat.{le_refl}
 use native.Mathlib.Omega.{arith}
-use Rattle.ordered.specs.Such.{if◌then◌else◌}
+use Rattle.std.specs.Prelude.{if◌then◌else◌}
 use Rattle.ordered.specs.Word.{Side, left, right, bit_of, side, other}
 use Rattle.ordered.specs.Dictionary.{Entry}
 use Rattle.ordered.specs.Tree.{Tree, none, row, damaged, part, exists, entries}
@@ -15,7 +15,7 @@ use Rattle.ordered.specs.Way.{Step, Way, Rule, stop, to, way, pushing, down}
 use Rattle.ordered.specs.Change.{Take, pushed, raised, left_over, entry_at}
 use Rattle.ordered.specs.Grown.{linking, chained, shifted, entry_below, lifted, pushed_tree, popped_tree}
 use Rattle.ordered.proofs.Bits.{to_part, from_part, left_below_right, whole_path}
-use Rattle.ordered.proofs.Parts.{All, AllWords, none_all, one_all, all_map}
+use Rattle.ordered.proofs.Parts.{AllWords, none_all, one_all, all_map}
 use Rattle.ordered.proofs.OneTree.{by_rows, keys_fit}
 use Rattle.ordered.proofs.Ways.{at_bottom, at_none, at_damage, at_stop, AtEnd, Onward, along}
 

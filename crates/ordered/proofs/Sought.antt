@@ -13,7 +13,7 @@ use Rattle.ordered.specs.Tree.{Tree, none, row, damaged, part, entries}
 use Rattle.ordered.specs.Proper.{Proper}
 use Rattle.ordered.specs.Way.{Way, Rule, way, following, passing_equal}
 use Rattle.ordered.proofs.Bits.{to_part, left_below_right, whole_path}
-use Rattle.ordered.proofs.Parts.{All, AllWords, none_all, one_all, all_map, all_append, all_above}
+use Rattle.ordered.proofs.Parts.{AllWords, none_all, one_all, all_map, all_append, all_above}
 use Rattle.ordered.proofs.OneTree.{keys_fit, parts_above}
 use Rattle.ordered.proofs.Ways.{Stops, at_bottom, at_none, at_damage, at_stop, Onward, along, left_aside, right_aside, lower, upper, Seeks, turns_so, stops_so, following_seeks, passing_equal_seeks}
 

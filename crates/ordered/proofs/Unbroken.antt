@@ -4,7 +4,8 @@ use mathlib.Core.Path.{◌≡◌, refl}
 use mathlib.Core.Bool.{Bool, true, false}
 use mathlib.Core.List.{List, [], ◌∷◌}
 use lib.Dec.{ltb}
-use Rattle.ordered.specs.Such.{if◌then◌else◌, Perhaps, no_such, such, only_if, last_such}
+use Rattle.std.specs.Prelude.{if◌then◌else◌}
+use Rattle.ordered.specs.Such.{Perhaps, no_such, such, last_such}
 use Rattle.ordered.specs.Word.{Side, left, right}
 use Rattle.ordered.specs.Dictionary.{Entry}
 use Rattle.ordered.specs.Tree.{Tree, part, intact}

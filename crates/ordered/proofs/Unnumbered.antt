@@ -6,14 +6,15 @@ use mathlib.Core.Bool.{Bool, true, false, ◌&&◌}
 use mathlib.Core.List.{List, [], ◌∷◌, ◌++◌, map}
 use lib.Dec.{ltb, eqb}
 use lib.ListN.{length}
-use Rattle.ordered.specs.Such.{if◌then◌else◌, Perhaps, no_such, such, is_there, its, first_of, only_if, last_such}
+use Rattle.std.specs.Prelude.{if◌then◌else◌}
+use Rattle.ordered.specs.Such.{Perhaps, no_such, such, is_there, its, first_of, only_if, last_such}
 use Rattle.ordered.specs.Word.{Side, left, right, side, is_side}
 use Rattle.ordered.specs.Dictionary.{Entry, words}
 use Rattle.ordered.specs.Tree.{Tree, none, row, damaged, exists, entries, unnumbered, going, tree_of}
 use Rattle.ordered.specs.Proper.{Proper}
 use Rattle.ordered.specs.Way.{Step, Way, Rule, Turn, stop, to, way, rows, end_rows, passing, turning, joined, following, passing_equal, pushing, down, staying}
-use Rattle.ordered.specs.Reading.{word_in, Found, passed_row, Reading, rows_of, root_row, end_row, end_if, to_its_end, has, skipped_right, next_by, next, skipped_left, prev_by, prev, first, last, gap_by, gap}
-use Rattle.ordered.specs.Change.{Adding, Erasing, way_ends_at, adding_by, adding, erasing_by, erasing}
+use Rattle.ordered.specs.Reading.{word_in, Found, passed_row, Reading, rows_of, root_row, end_if, to_its_end, has, skipped_right, next_by, next, skipped_left, prev_by, prev, first, last, gap_by, gap}
+use Rattle.ordered.specs.Change.{way_ends_at, adding_by, adding, erasing_by, erasing}
 use Rattle.ordered.proofs.OneTree.{one_tree}
 use Rattle.ordered.proofs.Ways.{step, Blind, following_blind, passing_equal_blind, pushing_blind, staying_blind, down_blind}
 

@@ -1,7 +1,7 @@
 -- What `add` and `del` do to a tree with m bits left: which rows they read, and which rows take another entry.
-use Rattle.std.specs.Prelude.{ℕ, zero, suc, Bool, true, false, List, [], ◌∷◌, ◌++◌, eqb}
-use Rattle.ordered.specs.Such.{if◌then◌else◌, Perhaps, no_such, such, last_such, anything, is_there}
-use Rattle.ordered.specs.Word.{Side, left}
+use Rattle.std.specs.Prelude.{ℕ, Bool, true, false, List, [], ◌∷◌, eqb}
+use Rattle.ordered.specs.Such.{Perhaps, no_such, last_such, anything, is_there}
+use Rattle.ordered.specs.Word.{left}
 use Rattle.ordered.specs.Dictionary.{Entry, no_entry}
 use Rattle.ordered.specs.Tree.{Tree, none, row, damaged}
 use Rattle.ordered.specs.Way.{Way, Step, way, joined, following, pushing, down}

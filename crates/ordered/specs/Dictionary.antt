@@ -1,7 +1,7 @@
 -- The ordered dictionary of source 004, its operations in the source's order. A set is a list of entries whose words strictly increase.
 -- The operations are recursive functions. Nobody has to trust the recursion: proofs/Dictionary.antt proves that each does what the source says.
-use Rattle.std.specs.Prelude.{ℕ, ◌<◌, Bool, true, false, List, [], ◌∷◌, ltb, eqb}
-use Rattle.ordered.specs.Such.{if◌then◌else◌, Perhaps, its, first_such, last_such, anything}
+use Rattle.std.specs.Prelude.{ℕ, ◌<◌, Bool, true, false, List, [], ◌∷◌, ltb, eqb, if◌then◌else◌}
+use Rattle.ordered.specs.Such.{Perhaps, its, first_such, last_such, anything}
 
 -- What the set stores for a word: the word and the latest serial handed in with it. A push or an erase moves entries from row to row.
 -- Document 02 §1: "Each row gets a fourth word, the serial handed in with `add`, any 32-bit number."

@@ -1,7 +1,6 @@
 -- The trees that `add` and `del` leave: the rows on their ways with their new entries, linked as before. Where the way ends, `add` links
 -- a new row and `del` links none.
-use Rattle.std.specs.Prelude.{ℕ, List, [], ◌∷◌}
-use Rattle.ordered.specs.Such.{if◌then◌else◌}
+use Rattle.std.specs.Prelude.{ℕ, List, [], ◌∷◌, if◌then◌else◌}
 use Rattle.ordered.specs.Word.{Side, left, right}
 use Rattle.ordered.specs.Dictionary.{Entry}
 use Rattle.ordered.specs.Tree.{Tree, none, row, damaged}

@@ -1,7 +1,7 @@
 -- The reading calls over a tree with m bits left: the ways that each call goes, and what it finds.
-use Rattle.std.specs.Prelude.{ℕ, zero, suc, ◌+◌, ◌-◌, min, Bool, true, false, ◌&&◌, ◌||◌, List, [], ◌∷◌, ◌++◌, ltb, leb, eqb}
-use Rattle.ordered.specs.Such.{if◌then◌else◌, Perhaps, no_such, such, its, only_if, last_such}
-use Rattle.ordered.specs.Word.{Side, left, right, is_side}
+use Rattle.std.specs.Prelude.{ℕ, suc, ◌+◌, ◌-◌, min, Bool, false, ◌&&◌, ◌||◌, List, [], ◌∷◌, ◌++◌, ltb, eqb, if◌then◌else◌}
+use Rattle.ordered.specs.Such.{Perhaps, no_such, such, its, only_if, last_such}
+use Rattle.ordered.specs.Word.{left, right, is_side}
 use Rattle.ordered.specs.Dictionary.{Entry}
 use Rattle.ordered.specs.Tree.{Tree, none, row, damaged, exists}
 use Rattle.ordered.specs.Way.{Way, Step, way, rows, read_on, broken, ending, following, passing_equal, down, staying}

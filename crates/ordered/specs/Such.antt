@@ -1,10 +1,5 @@
 -- A choice by a test, and a search in a list: the first or the last element that passes a test, if there is one.
-use Rattle.std.specs.Prelude.{Bool, true, false, List, [], ◌∷◌}
-
-infix 5 if◌then◌else◌
-abbrev pub if◌then◌else◌ {ℓ} : {A : Type ℓ} → Bool → A → A → A
-if true then a else b = a
-if false then a else b = b
+use Rattle.std.specs.Prelude.{Bool, true, false, if◌then◌else◌, List, [], ◌∷◌}
 
 pub data Perhaps (A : Type 0) : Type 0 where
   no_such : Perhaps A

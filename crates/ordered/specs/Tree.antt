@@ -1,7 +1,6 @@
 -- One type for the PreTree of a set and for the tree that a table shows, which may have damage.
 -- Document 01: "The sound tree of a set is: its least word at the root, the rest parted by the next bit, and so on down."
-use Rattle.std.specs.Prelude.{ℕ, zero, suc, ◌+◌, Bool, true, false, ◌&&◌, List, [], ◌∷◌, ◌++◌}
-use Rattle.ordered.specs.Such.{if◌then◌else◌}
+use Rattle.std.specs.Prelude.{ℕ, zero, suc, ◌+◌, Bool, true, false, ◌&&◌, List, [], ◌∷◌, ◌++◌, if◌then◌else◌}
 use Rattle.ordered.specs.Word.{Side, left, right, side, is_side}
 use Rattle.ordered.specs.Dictionary.{Entry, words}
 

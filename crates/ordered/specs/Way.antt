@@ -1,6 +1,5 @@
 -- A way: the rows that are read going down a tree, and where it ends. Each way of document 01 is `way` with a different rule.
-use Rattle.std.specs.Prelude.{ℕ, zero, suc, ◌+◌, Bool, true, false, List, [], ◌∷◌, ◌++◌, map, ltb, leb, length}
-use Rattle.ordered.specs.Such.{if◌then◌else◌}
+use Rattle.std.specs.Prelude.{ℕ, zero, suc, ◌+◌, Bool, true, false, List, [], ◌∷◌, ◌++◌, map, ltb, leb, length, if◌then◌else◌}
 use Rattle.ordered.specs.Word.{Side, other, side}
 use Rattle.ordered.specs.Dictionary.{Entry}
 use Rattle.ordered.specs.Tree.{Tree, none, row, damaged, part, exists}

@@ -1,1 +1,2 @@
 // Mathematics only: the definitions are in specs/, their laws in proofs/.
+#![tactic(auto)]
