@@ -1,10 +1,11 @@
 // Reading a decimal number. The programs read every number in a line or an argument with this function. specs/Decimal.antt has the rule.
+#![tactic(auto)]
 
 ghost use Rattle.std.specs.Prelude.{◌≡◌};
 ghost use Rattle.numbers.specs.Decimal.{read_number};
 
 // A number or none.
-#[derive(Drop)]
+#[derive(Clone, Copy)]
 pub enum Number {
     Of(u32),
     Nothing,
