@@ -26,7 +26,7 @@ agreeing_next (b ∷ new) (e ∷ earlier) zero h =
     (λ f. rw f)
     (true_or_false (eqb b e))
 agreeing_next (b ∷ new) (e ∷ earlier) (suc n) h =
-    ⊎_elim (λ t. rw t (rw (compare.suc_suc (suc n) (agreeing new earlier), compare.suc_suc n (agreeing new earlier)) (agreeing_next new earlier n (omega arith))))
+    ⊎_elim (λ t. rw t (rw (compare.suc-suc (suc n) (agreeing new earlier), compare.suc-suc n (agreeing new earlier)) (agreeing_next new earlier n (omega arith))))
     (λ f. rw f (rw (lt-leb (suc (suc n)) 0 (omega arith), lt-leb (suc n) 0 (omega arith))))
     (true_or_false (eqb b e))
 

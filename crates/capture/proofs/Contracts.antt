@@ -1,6 +1,7 @@
 -- The contracts of `leading` and `stale`, as the code has them, ask nothing and allow exactly one outcome.
 -- The checker makes `F.Reads.Post` from the `ensures` clauses of F in src/lib.rt: what they claim of the arguments, the result and the
--- parameters at exit. `F.Reads.Asked` is what the `requires` clauses ask of a caller, and `F.ended` is the signature. If a clause is
+-- parameters at exit. `F.Reads.Asked` is what the `requires` clauses ask of a caller, and `ended` of specs/contracts/F, which the
+-- checker makes too, is the signature. If a clause is
 -- removed from the code, it is missing here too, and the theorem is refused.
 -- Document 01: "show that any two outcomes it allows are equal".
 use Prim.Native.Nat.{ℕ}
@@ -13,10 +14,12 @@ use denote.Ref.{Bor}
 use denote.Triple.Clauses.{at_exit}
 use Rattle.capture.specs.Capture.{leading, is_stale}
 use Rattle.capture.proofs.Laws.{has_part, no_other}
+use Rattle.capture.specs.contracts.leading as leading_clauses
+use Rattle.capture.specs.contracts.stale as stale_clauses
 use Rattle.capture.proofs.leading as leading_fn
 use Rattle.capture.proofs.stale as stale_fn
 
--- Two captures, lent as `&[u8]` with separate lifetimes. `RefT` is the reference, and its `now` the bytes.
+-- Two captures, lent as `&[u8]` with separate lifetimes. `Bor` is the reference, and its `now` the bytes.
 module _ (new earlier : Bor (List ℕ)) (n e : Lft) where
   abbrev lifetimes : Lft × (Lft × Unit {0})
   lifetimes = (n, (e, tt))
@@ -26,10 +29,10 @@ module _ (new earlier : Bor (List ℕ)) (n e : Lft) where
 
   -- What a contract says of a result. It says nothing of the captures at exit (`tt`): shared references leave them unchanged.
   abbrev pub LeadingContract : Bor (List ℕ) → Type 0
-  LeadingContract part = leading_fn.Reads.Post lifetimes captures part (at_exit leading_fn.ended lifetimes captures (tt, (tt, tt)))
+  LeadingContract part = leading_fn.Reads.Post lifetimes captures part (at_exit leading_clauses.ended lifetimes captures (tt, (tt, tt)))
 
   abbrev pub StaleContract : Bool → Type 0
-  StaleContract answer = stale_fn.Reads.Post lifetimes captures answer (at_exit stale_fn.ended lifetimes captures (tt, (tt, tt)))
+  StaleContract answer = stale_fn.Reads.Post lifetimes captures answer (at_exit stale_clauses.ended lifetimes captures (tt, (tt, tt)))
 
   -- A contract allows exactly the result that specs/Capture.antt computes.
   pub leading_contract : (part : Bor (List ℕ)) → LeadingContract part ↔ (part.now ≡ leading new.now earlier.now)

@@ -3,6 +3,8 @@
 // `stale` says whether nothing new came. `leading` returns the bytes that were there already.
 //
 // Document 01, "The ways", the last point. specs/Capture.antt quotes it and defines both answers.
+#![tactic(auto)]
+
 ghost use Rattle.std.specs.Prelude.{◌≡◌, ◌+◌, ◌≤◌, ◌<◌, min, leb, length};
 ghost use Rattle.capture.specs.Capture.{agreeing, LeadingPart, is_stale};
 
@@ -15,6 +17,8 @@ pub fn leading<'n, 'e>(new: &'n [u8], earlier: &'e [u8]) -> &'n [u8]
 }
 
 // Whether `new` has a byte, and each of its bytes is at the same place in `earlier`.
+// Its proof: the part that `leading` returns is the one in the definition of `is_stale` (`no_other`).
+#[tactic(auto, using(crate::proofs::Laws::no_other), unfolding(crate::specs::Capture::is_stale))]
 pub fn stale(new: &[u8], earlier: &[u8]) -> bool
     ensures { result ≡ is_stale new.now earlier.now }
 {
