@@ -8,9 +8,11 @@ mod Windows
 pub mod Procedures
 -- The laws of the tray, as `Sampled` in the contract of `take_sample` needs them: a sample changes one record, a refusal none.
 pub mod Trays
--- Used by the proofs of the functions: what a counted sample has passed (`verdict`, `after`, `repetition_alarm`), and the tag of a refusal
--- in a `match` (`after`).
+-- The contract of `take_sample` is `Sampled`.
+pub mod Contracts
+-- Used by the proofs of the functions: what a counted sample has passed (`verdict`, `after`, `repetition_alarm`).
 mod Checks
+-- a law of the tags that a verdict has
 pub mod Tags
 -- Tests by computation, on records that no samples leave.
 pub mod Examples

@@ -1,7 +1,7 @@
 -- A sequence of samples to the seats of a tray, with one width and one pair of cutoffs: the answers of the calls, and the answers that the
 -- standard's procedures give on each seat's samples alone.
 -- Document 02, §6: "Show both over any sequence of samples to any seats of a fresh tray, with one width and one pair of cutoffs."
-use Rattle.std.specs.Prelude.{ℕ, Bool, cond, not, ◌&&◌, List, [], ◌∷◌, ◌++◌, ltb, eqb}
+use Rattle.std.specs.Prelude.{ℕ, cond, not, ◌&&◌, List, [], ◌∷◌, ◌++◌, ltb, eqb}
 use Rattle.tray.specs.declared.Seat.{Seat}
 use Rattle.tray.specs.declared.Sample.{Sample}
 use Rattle.tray.specs.declared.Verdict.{Verdict}

@@ -2,6 +2,8 @@
 // 4.4.2, sample by sample. Document 02, §6; specs/Seat.antt quotes it and defines the answer to each sample and the record after it.
 //
 // A caller lends its tray and calls `take_sample`. The work is done by value, on one seat's record; two functions touch the tray.
+#![tactic(auto)]
+
 ghost use Rattle.std.specs.Prelude.{◌≡◌, ◌<◌, ◌≤◌, false, ltb, length, get_or, set};
 ghost use Rattle.tray.specs.Seat.{fresh, window, wrong_width, too_wide, low_cutoff, damaged};
 ghost use Rattle.tray.specs.Seat.{repeats, run_with, repetition_alarm, is_window_word, window_word, count_with, proportion_alarm};
@@ -10,7 +12,7 @@ ghost use Rattle.tray.specs.Tray.{Sampled};
 ghost use Rattle.tray.specs.Verdict.{number_of};
 
 // "a lent table of seat records, one for each chip, with the last word, its run, the proportion window's word, its place and its count"
-#[derive(Drop)]
+#[derive(Clone, Copy)]
 pub struct Seat {
     pub last: u32,
     pub run: u32,
@@ -20,7 +22,7 @@ pub struct Seat {
 }
 
 // "The word width and the cutoffs are handed in with each sample". `repetition` and `proportion` are the cutoffs of the two tests.
-#[derive(Drop)]
+#[derive(Clone, Copy)]
 pub struct Sample {
     pub width: u32,
     pub word: u32,
@@ -29,7 +31,7 @@ pub struct Sample {
 }
 
 // The answer to a sample: both alarms, or a refusal. `number_of`, in specs/Verdict.antt, gives each its number in the document.
-#[derive(Drop)]
+#[derive(Clone, Copy)]
 pub enum Verdict {
     Counted { repetition: bool, proportion: bool },
     WrongWidth,
@@ -153,6 +155,7 @@ impl Seat {
     }
 
     // Whether the word repeats the last one; "a run of 0 means no sample yet".
+    #[tactic(auto, unfolding(crate::specs::Seat::repeats))]
     fn repeats(self, word: u32) -> bool
         ensures { result ≡ repeats self word }
     {

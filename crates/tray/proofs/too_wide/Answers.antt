@@ -4,18 +4,11 @@ use native.Mathlib.Nat.{one-mul, mod-eq_of_lt}
 use borrow.Author.Rules.{rules}
 use lib.Pow.{pow-lt}
 use Rattle.tray.specs.Seat.{too_wide}
-use Rattle.tray.proofs.too_wide.Statement.{statement}
-use Rattle.tray.proofs.too_wide.Tie as tie
+use Rattle.tray.proofs.too_wide.Goals as goal
 
-shl-result : tie.Need-overflow-shl-result
-shl-result c = search rules
-
-returns : tie.Need-returns
+pub returns : goal.returns
 unfolding too_wide
 returns c =
     let h : c.args.width < 64 = search rules in
     let fits : 2 ^ c.args.width < 2 ^ 64 = pow-lt h in
     rw (one-mul, mod-eq_of_lt)
-
-pub too-wide-spec : {M : Type 1} → statement M
-too-wide-spec = tie.close (tie.spec shl-result returns)

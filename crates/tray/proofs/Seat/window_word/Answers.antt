@@ -1,0 +1,12 @@
+-- The code's tests are the definition's.
+use borrow.Author.Tests.{eq-eqb, ne_eqb}
+use Rattle.tray.specs.Seat.{window_word}
+use Rattle.tray.proofs.Seat.window_word.Goals as goal
+
+pub returns-then-self-eq0 : goal.returns-then-self-eq0
+unfolding window_word
+returns-then-self-eq0 c = simp (eq-eqb _ _ c.if-self-eq0.true)
+
+pub returns-else-self-eq0 : goal.returns-else-self-eq0
+unfolding window_word
+returns-else-self-eq0 c = simp (ne_eqb _ _ c.if-self-eq0.false)
