@@ -9,7 +9,8 @@ use lib.Dec.{ltb, eqb}
 use lib.ListN.{length}
 use lib.Pow.{shl-shr}
 use borrow.Author.Tests.{lt-ltb, eqb-true, eq-eqb, ne_eqb}
-use Rattle.ordered.specs.Such.{is_there, if◌then◌else◌, such, no_such, last_such, anything}
+use Rattle.std.specs.Prelude.{if◌then◌else◌}
+use Rattle.ordered.specs.Such.{is_there, such, no_such, last_such, anything}
 use Rattle.ordered.specs.Word.{Side, side_of}
 use Rattle.ordered.specs.Tree.{Tree, none, damaged}
 use Rattle.ordered.specs.Way.{Way, way, joined, broken, is_damaged, end_rows, pushing}

@@ -1,16 +1,15 @@
 -- The numbers of a seek. The distance of a key from a word tells whether the key has the bits of the word's path.
-use Prim.Native.Nat.{ℕ, zero, suc, pred, ◌+◌, ◌*◌, ◌-◌, ◌/◌, ◌%◌, ◌^◌, ◌≤◌, ◌<◌}
-use mathlib.Core.Path.{◌≡◌, refl, sym, ap, ◌∙◌, subst}
-use mathlib.Core.Bool.{Bool, true, false, not, ◌&&◌}
-use native.Mathlib.Nat.{suc-mul, mod-lt, div-eq_of_lt-le, le_of_eq, suc-ne-zero, pos_of_ne-zero, add_comm, pow-suc}
+use Prim.Native.Nat.{ℕ, suc, ◌+◌, ◌*◌, ◌-◌, ◌/◌, ◌%◌, ◌^◌, ◌≤◌, ◌<◌}
+use mathlib.Core.Path.{◌≡◌, refl}
+use native.Mathlib.Nat.{suc-mul, mod-lt, div-eq_of_lt-le, add_comm, pow-suc}
 use native.Mathlib.Numerals.{add-one}
 use native.Mathlib.Omega.{arith}
 use lib.Bits.{bit_and, and_mask}
 use lib.Count.{count_leading_zeros, leading_unique}
-use lib.Dec.{ltb, leb, eqb}
-use lib.Pow.{split, pow_pos, suc_ones, ones_lt, ones_split, mod-pow-add, mod-mod-pow}
-use borrow.Author.Tests.{lt-ltb, le-ltb, le-leb, lt-leb, eq-eqb, ne_eqb, ltb-true, ltb-false, eqb-true, eqb-false}
-use Rattle.ordered.specs.Such.{if◌then◌else◌}
+use lib.Dec.{ltb}
+use lib.Pow.{split, pow_pos, ones_lt, mod-pow-add, mod-mod-pow}
+use borrow.Author.Tests.{lt-ltb, le-ltb}
+use Rattle.std.specs.Prelude.{if◌then◌else◌}
 use Rattle.ordered.specs.Word.{Side, left, right, side_of, bit_of, side}
 use Rattle.ordered.proofs.Bits.{next_bit}
 use Rattle.pretree.specs.Seek.{bits_left_by}

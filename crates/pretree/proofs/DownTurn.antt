@@ -1,13 +1,12 @@
 -- `down_turn` is the turn that the rule `down` says.
 use Prim.Native.Nat.{ℕ, suc}
-use mathlib.Core.Path.{◌≡◌, refl, sym}
-use mathlib.Core.Bool.{Bool, true, false, not}
+use mathlib.Core.Path.{◌≡◌}
+use mathlib.Core.Bool.{not}
 use lib.Dec.{eqb}
-use Rattle.ordered.specs.Such.{if◌then◌else◌}
 use Rattle.ordered.specs.Word.{Side, left, right, other}
 use Rattle.ordered.specs.Dictionary.{Entry}
 use Rattle.ordered.specs.Tree.{part, exists}
-use Rattle.ordered.specs.Way.{down, to, stop}
+use Rattle.ordered.specs.Way.{down}
 use Rattle.pretree.specs.declared.Row.{Row}
 use Rattle.pretree.specs.Table.{link}
 use Rattle.pretree.specs.Walk.{below, down_turn}

@@ -6,7 +6,8 @@ use mathlib.Core.List.{List}
 use native.Mathlib.Omega.{arith}
 use lib.Dec.{eqb}
 use borrow.Author.Tests.{ne_eqb, leb-true}
-use Rattle.ordered.specs.Such.{if◌then◌else◌, Perhaps, no_such, such, is_there, only_if}
+use Rattle.std.specs.Prelude.{if◌then◌else◌}
+use Rattle.ordered.specs.Such.{Perhaps, no_such, such, is_there, only_if}
 use Rattle.ordered.specs.Word.{Side, left, right, bit_of}
 use Rattle.ordered.specs.Tree.{none}
 use Rattle.ordered.specs.Way.{Rule, Turn, way, turning, stop, to}

@@ -11,7 +11,8 @@ use lib.Dec.{ltb, eqb}
 use lib.ListN.{length, length-append}
 use lib.Pow.{shl-shr}
 use borrow.Author.Tests.{lt-ltb, eq-eqb, ne_eqb, eqb-true}
-use Rattle.ordered.specs.Such.{if◌then◌else◌, Perhaps, anything}
+use Rattle.std.specs.Prelude.{if◌then◌else◌}
+use Rattle.ordered.specs.Such.{Perhaps, anything}
 use Rattle.ordered.specs.Word.{left, side_of}
 use Rattle.ordered.specs.Tree.{Tree, none}
 use Rattle.ordered.specs.Way.{Way, Step, way, joined, broken, is_damaged, following, down}
@@ -310,8 +311,8 @@ row_there rows count p w = go (ltb p.row count && judges p (rows p.row))
   where
     go : (b : Bool) → EndsAs rows w (if b then Ends.Row (rows p.row) else Ends.Damage)
         → ((if b then Ends.Row (rows p.row) else Ends.Damage) ≡ Ends.Damage → ⊥) → w.stage ≡ AtRow
-    go true so whole = so.0
-    go false so whole = absurd (whole refl)
+    go true so not_damage = so.0
+    go false so not_damage = absurd (not_damage refl)
 
 -- the leg down from k's row
 module _ {h : Header} {table : List ℕ} {k : ℕ} {at : Place} {above : ℕ} (fine : wrong_header h table ≡ false) (found : RowOfKey h table k at above) where

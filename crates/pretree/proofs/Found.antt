@@ -7,12 +7,13 @@ use native.Mathlib.Nat.{add-zero, zero-add}
 use native.Mathlib.Omega.{arith}
 use lib.Dec.{ltb, eqb}
 use borrow.Author.Tests.{ltb-true, eq-eqb, ne_eqb}
-use Rattle.ordered.specs.Such.{if◌then◌else◌, such, no_such, only_if}
+use Rattle.std.specs.Prelude.{if◌then◌else◌}
+use Rattle.ordered.specs.Such.{such, no_such, only_if}
 use Rattle.ordered.specs.Word.{right}
 use Rattle.ordered.specs.Tree.{Tree, none, row, damaged}
 use Rattle.ordered.specs.Way.{Way, Rule, way, ending, broken, is_damaged, staying, down}
 use Rattle.ordered.specs.Way as Ways
-use Rattle.ordered.specs.Reading.{Found, word_in, rows_of, broken_in, root_row, end_row, to_its_end, has}
+use Rattle.ordered.specs.Reading.{word_in, rows_of, broken_in, root_row, end_row, to_its_end, has}
 use Rattle.ordered.specs.Dictionary.{no_entry}
 use Rattle.pretree.specs.declared.Header.{Header}
 use Rattle.pretree.specs.declared.Answer.TheVariants.{Serial, Word, WrongHeader, Damage, NoSuchWord}

@@ -7,7 +7,7 @@ use native.Mathlib.Omega.{arith}
 use lib.Bits.{bit_xor, bit_and, and_mask}
 use lib.Dec.{ltb, leb, eqb}
 use borrow.Author.Tests.{lt-ltb, ne_eqb, ltb-true, eqb-true, eqb-false}
-use Rattle.ordered.specs.Such.{if◌then◌else◌}
+use Rattle.std.specs.Prelude.{if◌then◌else◌}
 use Rattle.ordered.specs.Word.{Side, left, right, other, side_of, bit_of, side}
 use Rattle.ordered.specs.Way.{Rule, Turn, stop, to, down, pushing}
 use Rattle.ordered.proofs.Ways.{and_true}

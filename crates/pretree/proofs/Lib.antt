@@ -1,5 +1,5 @@
--- The proof files by what they serve. The proof of a function is in the folder of its source file, as leg/down/Proof.antt, and that of a method of
--- `Header` in Header, as Header/add/Proof.antt.
+-- The proof files by what they serve. The proof of a function is in the folder of its source file, as leg/down/Answers.antt, and that of a method of
+-- `Header` in Header, as Header/add/Answers.antt.
 -- the table: reading a row and the writes (table.rt, write.rt); the laws of rows under the writes, for the writing calls and for crate demands
 pub mod Writing
 pub mod Rows

@@ -6,15 +6,16 @@ use mathlib.Core.List.{List, [], ◌∷◌, ◌++◌}
 use native.Mathlib.Nat.{add-zero}
 use native.Mathlib.Omega.{arith}
 use lib.Dec.{eqb}
-use Rattle.ordered.specs.Such.{if◌then◌else◌, Perhaps, such, no_such, its, only_if, last_such}
+use Rattle.std.specs.Prelude.{if◌then◌else◌}
+use Rattle.ordered.specs.Such.{Perhaps, such, no_such, its, only_if, last_such}
 use Rattle.ordered.specs.Word.{right}
 use Rattle.ordered.specs.Tree.{Tree}
 use Rattle.ordered.specs.Way.{Way, Step, way, rows, broken, following, passing_equal, down}
-use Rattle.ordered.specs.Reading.{Found, word_in, passed_row, Reading, rows_of, broken_in, root_row, end_row, end_if, to_its_end, skipped_left, prev_by, nearest, gap_by, has, prev, next, gap}
+use Rattle.ordered.specs.Reading.{Found, word_in, passed_row, Reading, rows_of, broken_in, root_row, end_if, to_its_end, skipped_left, prev_by, nearest, gap_by, has, prev, next, gap}
 use Rattle.ordered.proofs.Rows.{rows_append, prev_rows, next_rows}
 use Rattle.pretree.specs.declared.Header.{Header}
 use Rattle.pretree.specs.declared.Answer.{Answer}
-use Rattle.pretree.specs.declared.Answer.TheVariants.{Word, Distance, Damage, NoSuchWord}
+use Rattle.pretree.specs.declared.Answer.TheVariants.{Distance, Damage, NoSuchWord}
 use Rattle.pretree.specs.declared.Reply.{Reply}
 use Rattle.pretree.specs.declared.gap.Neighbour.{Neighbour}
 use Rattle.pretree.specs.declared.leg.End.{End}
@@ -185,4 +186,4 @@ module _ (h : Header) (table : List ℕ) (k : ℕ) (fine : wrong_header h table 
   -- in an empty set there is no nearest word
   pub none_near : h.count ≡ 0 → answered h NoSuchWord 0 ≡ gap_reply h table k
   unfolding gap_reply gap has prev next broken_in broken rows_of rows last_such
-  none_near empty = rw (fine, small, empty_way h table (following k) empty, empty_way h table (passing_equal k) empty)
+  none_near empty = simp (fine, small, empty_way h table (following k) empty, empty_way h table (passing_equal k) empty)

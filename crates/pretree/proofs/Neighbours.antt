@@ -5,11 +5,12 @@ use mathlib.Core.Bool.{Bool, true, false, not, ◌&&◌, or-false}
 use mathlib.Core.List.{List, [], ◌∷◌}
 use native.Mathlib.Nat.{add-zero}
 use lib.Dec.{ltb, eqb}
-use Rattle.ordered.specs.Such.{if◌then◌else◌, Perhaps, such, no_such, only_if, last_such, anything}
+use Rattle.std.specs.Prelude.{if◌then◌else◌}
+use Rattle.ordered.specs.Such.{Perhaps, such, no_such, only_if, last_such, anything}
 use Rattle.ordered.specs.Tree.{Tree, none}
 use Rattle.ordered.specs.Way.{Way, Step, way, rows, broken, is_damaged, ending, following, down}
 use Rattle.ordered.specs.Word.{left, right, side_of, is_side}
-use Rattle.ordered.specs.Reading.{Found, word_in, passed_row, Reading, rows_of, broken_in, root_row, end_row, end_if, to_its_end, right_child, next_by, skipped_left, prev_by, next, prev}
+use Rattle.ordered.specs.Reading.{Found, word_in, passed_row, Reading, rows_of, broken_in, root_row, end_row, to_its_end, right_child, next_by, skipped_left, prev_by, next, prev}
 use Rattle.ordered.proofs.Parts.{same_last}
 use Rattle.ordered.proofs.Ways.{passed_pass, following_seeks}
 use Rattle.pretree.specs.declared.Header.{Header}

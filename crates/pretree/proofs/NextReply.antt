@@ -9,7 +9,7 @@ use lib.Bits.{bit_and}
 use lib.Dec.{ltb, leb, eqb}
 use lib.Pow.{pow_mono, ones_lt}
 use borrow.Author.Tests.{le-ltb, lt-leb, eq-eqb, ne_eqb, ltb-true, ltb-false, eqb-true, eqb-false}
-use Rattle.ordered.specs.Such.{if◌then◌else◌}
+use Rattle.std.specs.Prelude.{if◌then◌else◌}
 use Rattle.ordered.specs.Word.{Side, left, right, side_of, bit_of, side}
 use Rattle.ordered.specs.Way.{to}
 use Rattle.ordered.proofs.Bits.{next_bit}

@@ -11,9 +11,9 @@ use lib.Bits.{bit_and, bit_or, and_mask, or_shifted}
 use lib.Dec.{ltb, leb, eqb}
 use lib.Pow.{split, pow-lt, pow_mono, suc_ones}
 use borrow.Author.Tests.{lt-ltb, le-leb, ne_eqb, leb-true, eqb-true, eqb-false}
-use Rattle.ordered.specs.Such.{if◌then◌else◌}
+use Rattle.std.specs.Prelude.{if◌then◌else◌}
 use Rattle.ordered.specs.Word.{left, side}
-use Rattle.ordered.specs.Tree.{none, row}
+use Rattle.ordered.specs.Tree.{none}
 use Rattle.ordered.specs.Way.{way, broken, staying}
 use Rattle.ordered.proofs.Bits.{next_bit, by_paths}
 use Rattle.ordered.proofs.Parts.{IfSuch}
@@ -32,7 +32,7 @@ use Rattle.pretree.specs.Found.{word_by, then_by, aside_from, next_found_from}
 use Rattle.pretree.specs.Leg.{judges, row_end, link_end, Stands}
 use Rattle.pretree.specs.Seek.{row_of, aside_of, span_of}
 use Rattle.pretree.specs.Next.{next_place, next_from}
-use Rattle.pretree.specs.Walk.{Walk, On, AtNone, AtRow, AtDamage, is_on, rows_read_by, stage_at, started_at, holds, ended, turned, met, step_at, remembered, seeking, seek_turn, Walking, Walked}
+use Rattle.pretree.specs.Walk.{Walk, On, AtNone, AtRow, AtDamage, is_on, rows_read_by, stage_at, started_at, holds, ended, met, step_at, remembered, seeking, seek_turn, Walking, Walked}
 use Rattle.pretree.proofs.Checks.{right_header, narrow}
 use Rattle.pretree.proofs.Found.{stays, row_read}
 use Rattle.pretree.proofs.Neighbours.{next_at_is}

@@ -12,7 +12,7 @@ use lib.ListN.{length, set, length-set}
 use lib.Pow.{pow_pos, pow-lt, pow-add, suc_ones, split, shr_lt, shl-shr}
 use lib.Seq.{sets}
 use borrow.Author.Tests.{ltb-true, eqb-true, eqb-false, ne_eqb}
-use Rattle.ordered.specs.Such.{if◌then◌else◌}
+use Rattle.std.specs.Prelude.{if◌then◌else◌}
 use Rattle.ordered.specs.Word.{Side, left, right, bit_of}
 use Rattle.ordered.specs.Dictionary.{Entry, words}
 use Rattle.ordered.specs.Tree.{Tree, none, row, damaged, intact, size, entries, listing}
@@ -144,8 +144,8 @@ module _ (rows : ℕ → Rows.Row) (n : ℕ) where
         shows = rw (place_bits, place_path, st.low)
 
         go : (b : Bool) → eqb p.row 0 ≡ b → Found p (place_tree rows n p) (if b then None else row_end rows n p)
-        go true e = shows ∙ linked_none _ p.row (eqb-true p.row 0 e)
-        go false e = row_found (place_tree rows n p) (shows ∙ linked_row _ p.row (eqb-false p.row 0 e))
+        go true e = shows ∙ linked_none (unfolded rows n w.bits w.path w.low) p.row (eqb-true p.row 0 e)
+        go false e = row_found (place_tree rows n p) (shows ∙ linked_row (unfolded rows n w.bits w.path w.low) p.row (eqb-false p.row 0 e))
 
   -- ---- an undamaged row, and the places below it
 
@@ -238,7 +238,10 @@ module _ (rows : ℕ → Rows.Row) (n : ℕ) where
       go few false = rw counted_damaged (omega arith)
 
   below_few : (m i : ℕ) (s : Side) → counted (below rows n (suc m) i s) ≤ 2 ^ suc m
-  below_few m i s = linked_few _ (2 ^ suc m) (pow_pos (suc m)) (λ j. unfolded_few m _ _ j) (link (rows i) s)
+  below_few m i s =
+      let path : ℕ = (rows i).entry.key / 2 ^ suc m * 2 + bit_of s in
+      let low : ℕ = suc (rows i).entry.key in
+      linked_few (unfolded rows n m path low) (2 ^ suc m) (pow_pos (suc m)) (λ j. unfolded_few m path low j) (link (rows i) s)
 
   -- ---- the loop of `row_counted`
 
@@ -291,7 +294,8 @@ module _ (rows : ℕ → Rows.Row) (n : ℕ) where
 
         side_none : (m : ℕ) (s : Side) → link (rows c.i) s ≡ 0 → below rows n m c.i s ≡ none
         side_none zero s e = refl
-        side_none (suc m) s e = linked_none _ (link (rows c.i) s) e
+        side_none (suc m) s e =
+            linked_none (unfolded rows n m ((rows c.i).entry.key / 2 ^ suc m * 2 + bit_of s) (suc (rows c.i).entry.key)) (link (rows c.i) s) e
 
         zeros : (eqb (rows c.i).left 0 ≡ true) × (eqb (rows c.i).right 0 ≡ true)
         zeros = and_true (eqb (rows c.i).left 0) _ links_none
@@ -457,7 +461,7 @@ module _ (rows : ℕ → Rows.Row) (n : ℕ) where
     module _ (leaf : not (eqb r.left 0 && eqb r.right 0) ≡ false) where
       side_none : (m : ℕ) (s : Side) → link here_row s ≡ 0 → below rows n m c.i s ≡ none
       side_none zero s e = refl
-      side_none (suc m) s e = linked_none _ (link here_row s) e
+      side_none (suc m) s e = linked_none (unfolded rows n m (here_row.entry.key / 2 ^ suc m * 2 + bit_of s) (suc here_row.entry.key)) (link here_row s) e
 
       zeros : (eqb here_row.left 0 ≡ true) × (eqb here_row.right 0 ≡ true)
       zeros = and_true (eqb here_row.left 0) _ (flip _ (rw c.at at leaf))
@@ -557,7 +561,7 @@ module _ (rows : ℕ → Rows.Row) (n : ℕ) where
         pub right_empty_ends : r.right ≡ 0 → (middle ≡ start + size total) × (second ≡ sets first start (listing total))
         unfolding size entries
         right_empty_ends e =
-            let gone : side_part right ≡ none = (side_so right).0 ∙ linked_none _ r.right e in
+            let gone : side_part right ≡ none = (side_so right).0 ∙ linked_none (row_tree rows n (bits_left_by (mask / 2))) r.right e in
             let so : sets second middle (listing (side_part right)) ≡ sets first start (listing total) = all_written in (
               let none_size : size (side_part right) ≡ 0 = ap size gone in
                   omega (arith, middle_so, sizes),
@@ -572,7 +576,7 @@ module _ (rows : ℕ → Rows.Row) (n : ℕ) where
           right_bits = sym (ap bits_left_by right_stands.mask_is ∙ bits_are right_stands.bits right_stands.few)
 
           right_tree : side_part right ≡ row_tree rows n right_stands.bits r.right
-          right_tree = (side_so right).0 ∙ linked_row _ r.right some ∙ ap (λ (b : ℕ). row_tree rows n b r.right) (sym right_bits)
+          right_tree = (side_so right).0 ∙ linked_row (row_tree rows n (bits_left_by (mask / 2))) r.right some ∙ ap (λ (b : ℕ). row_tree rows n b r.right) (sym right_bits)
 
           pub right_used : r.right < n
           right_used = right_stands.used

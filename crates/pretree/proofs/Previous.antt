@@ -11,11 +11,13 @@ use lib.Pow.{split, pow_pos, pow_mono, pow-add, shr_lt}
 use denote.Enum.Declared.{tag_of}
 use types.Run.{OneOf, miss}
 use borrow.Author.Tests.{lt-ltb, le-ltb, eq-eqb, ne_eqb}
-use Rattle.ordered.specs.Such.{if◌then◌else◌, last_such}
-use Rattle.ordered.specs.Word.{left, right, side_of, is_side}
+use Rattle.std.specs.Prelude.{if◌then◌else◌}
+use Rattle.ordered.specs.Such.{last_such}
+use Rattle.ordered.specs.Word.{left, right, bit_of, side_of, is_side}
 use Rattle.ordered.specs.Tree.{Tree}
 use Rattle.ordered.specs.Way.{way, rows, broken, following, down}
 use Rattle.ordered.specs.Reading.{rows_of, broken_in, prev}
+use Rattle.pretree.specs.contracts.leg.End.{the_type}
 use Rattle.pretree.specs.declared.Header.{Header}
 use Rattle.pretree.specs.declared.Answer.TheVariants.{Word, Damage, NoSuchWord}
 use Rattle.pretree.specs.declared.Reply.{Reply}
@@ -24,7 +26,7 @@ use Rattle.pretree.specs.declared.leg.End.{End}
 use Rattle.pretree.specs.declared.leg.End as Ends
 use Rattle.pretree.specs.declared.seek.Seek.{Seek}
 use Rattle.pretree.specs.Table.{capacity, row_at}
-use Rattle.pretree.specs.Unfold.{linked, shown}
+use Rattle.pretree.specs.Unfold.{linked, unfolded, shown}
 use Rattle.pretree.specs.Reply.{wrong_header, too_wide, refused, answered}
 use Rattle.pretree.specs.Find.{prev_reply}
 use Rattle.pretree.specs.Found.{then_by, above_by, above_from, prev_from, greatest_by}
@@ -32,7 +34,6 @@ use Rattle.pretree.specs.Walk.{Walk, AtNone, AtRow, AtDamage, started_at, tree_a
 use Rattle.pretree.specs.Leg.{Stands}
 use Rattle.pretree.specs.Seek.{row_of, above_of, bits_left_by, end_at, Sought, SeekEnds}
 use Rattle.pretree.specs.Prev.{rows_to, left_if_right, left_place}
-use Rattle.pretree.specs.contracts.leg.End.{the_type}
 use Rattle.pretree.proofs.Checks.{right_header}
 use Rattle.pretree.proofs.Found.{empty_way}
 use Rattle.pretree.proofs.Neighbours.{prev_at}
@@ -264,7 +265,7 @@ module _ {table : List ℕ} {h : Header} {k : ℕ} {s : Seek} {e : End} (g : Sto
           → greatest_by h (row_at table) read (left_start h.count last left_bits) ≡ prev_reply h table k
       left_of_last there =
           let part_is : below (row_at table) h.count (suc left_bits) (above_of s) left ≡ tree_at (row_at table) (left_start h.count last left_bits)
-          = followed _ last.left (λ none. there (no_left (eqb (k / 2 ^ left_bits % 2) 0) last.left none)) in
+          = followed (unfolded (row_at table) h.count left_bits (last.entry.key / 2 ^ suc left_bits * 2 + bit_of left) (suc last.entry.key)) last.left (λ none. there (no_left (eqb (k / 2 ^ left_bits % 2) 0) last.left none)) in
           ap (λ (t : Tree). then_by h read (way (down right) left_bits t)) (sym part_is)
           ∙ sym (by_side true (aside_is false (ne_eqb _ 0 there)))
           ∙ ended_whole whole

@@ -8,9 +8,10 @@ use native.Mathlib.Omega.{arith}
 use lib.Dec.{ltb, eqb}
 use lib.ListN.{length, length-append}
 use borrow.Author.Tests.{lt-ltb, ltb-true}
-use Rattle.ordered.specs.Such.{if◌then◌else◌, last_such, anything}
+use Rattle.std.specs.Prelude.{if◌then◌else◌}
+use Rattle.ordered.specs.Such.{last_such, anything}
 use Rattle.ordered.specs.Word.{left, right, side_of}
-use Rattle.ordered.specs.Tree.{Tree, none, row, damaged}
+use Rattle.ordered.specs.Tree.{Tree, none, damaged}
 use Rattle.ordered.specs.Way.{Way, Step, Rule, Turn, way, ending, turning, joined, end_rows, is_damaged, stop, to}
 use Rattle.ordered.proofs.Parts.{All, none_all, one_all, last_such_append}
 use Rattle.ordered.proofs.Ways.{and_true}

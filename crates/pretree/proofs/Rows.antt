@@ -29,6 +29,7 @@ stored_outside (w ∷ ws) table at p (inr after) =
 
 -- and each of them is read back.
 read_back : (ws table : List ℕ) (at j : ℕ) → at + length ws ≤ length table → j < length ws → get_or (sets table at ws) (at + j) 0 ≡ get_or ws j 0
+read_back [] table at j room in_row = elim in_row [ ]
 read_back (w ∷ ws) table at zero room in_row =
     rw (add-zero at) (stored_outside ws (set table at w) (suc at) at (inl (omega arith)) ∙ get_or-set_same table at w 0 (omega arith))
 read_back (w ∷ ws) table at (suc j) room in_row =

@@ -1,12 +1,12 @@
 -- `seek_turn` is the turn that the rule `seeking` says. The rules of document 01's two ways by a word are `seeking` with two limits.
-use Prim.Native.Nat.{ℕ, suc, pred, ◌≤◌, ◌<◌}
+use Prim.Native.Nat.{ℕ, suc}
 use mathlib.Core.Path.{◌≡◌, refl, sym}
 use mathlib.Core.Bool.{Bool, true, false}
 use native.Mathlib.Nat.{suc-ne-zero}
-use lib.Dec.{ltb, leb, eqb, leb-suc-suc}
+use lib.Dec.{ltb, leb, leb-suc-suc}
 use borrow.Author.Tests.{ne_eqb, lt-ltb, le-ltb, leb-true, leb-false}
-use Rattle.ordered.specs.Such.{if◌then◌else◌}
-use Rattle.ordered.specs.Word.{Side, left, right, side}
+use Rattle.std.specs.Prelude.{if◌then◌else◌}
+use Rattle.ordered.specs.Word.{side}
 use Rattle.ordered.specs.Dictionary.{Entry}
 use Rattle.ordered.specs.Tree.{Tree}
 use Rattle.ordered.specs.Way.{following, passing_equal, to, stop}

@@ -8,7 +8,7 @@ use native.Mathlib.Omega.{arith}
 use lib.Dec.{ltb}
 use lib.Pow.{split, pow_pos, pow_mono, shr_lt, le_ones, ones_split}
 use borrow.Author.Tests.{lt-ltb, ltb-true, ltb-false}
-use Rattle.ordered.specs.Such.{if◌then◌else◌}
+use Rattle.std.specs.Prelude.{if◌then◌else◌}
 use Rattle.pretree.specs.declared.Header.{Header}
 use Rattle.pretree.specs.declared.leg.End.{End}
 use Rattle.pretree.specs.declared.leg.End.TheVariants.{Damage}

@@ -1,20 +1,20 @@
 -- The starred examples of document 01 hold for the definitions. Their tables are sound, are the trees of their sets, and are what `add` makes from
 -- an empty table.
-use Prim.Native.Nat.{ℕ, ◌*◌}
+use Prim.Native.Nat.{ℕ}
 use mathlib.Core.Path.{◌≡◌, refl}
 use mathlib.Core.List.{List, [], ◌∷◌}
 use lib.ListN.{length, replicate}
 use Rattle.ordered.specs.Example.{Example, ◌is◌, AllAgree}
 use Rattle.ordered.specs.Such.{last_such}
 use Rattle.ordered.specs.Word.{side}
-use Rattle.ordered.specs.Tree.{Tree, unnumbered, tree_of, going, intact, size}
+use Rattle.ordered.specs.Tree.{unnumbered, tree_of, going}
 use Rattle.ordered.specs.Way.{way, rows, broken, joined, following, passing_equal, pushing, down, staying}
 use Rattle.ordered.specs.Reading.{rows_of, broken_in, has, next, prev, last, gap}
 use Rattle.ordered.specs.Change.{adding, pushed, left_over}
 use Rattle.pretree.specs.declared.Header.{Header}
 use Rattle.pretree.specs.Table.{capacity, row_at, with_entry, with_serial, with_link, with_row}
 use Rattle.pretree.specs.Unfold.{unfolded, shown}
-use Rattle.pretree.specs.Sound.{met, times, keys_of, Sound, is_sound}
+use Rattle.pretree.specs.Sound.{met, times, keys_of, Sound}
 use Rattle.pretree.specs.Answer.{number_of, key_of, serial_of}
 use Rattle.pretree.specs.Reply.{wrong_header, too_wide, fresh}
 use Rattle.pretree.specs.Find.{has_reply, next_reply, prev_reply, last_reply, gap_reply}
@@ -53,6 +53,6 @@ abbrev pub made : Held → List ℕ → Example (Header × List ℕ)
 made s order = adds (fresh s.header.width) (replicate (length s.table) 0) order is (s.header, s.table)
 
 pub made_by_adds : AllAgree (made A (8 ∷ 4 ∷ 11 ∷ 15 ∷ []) ∷ made B (0 ∷ 1 ∷ 2 ∷ 3 ∷ 4 ∷ []) ∷ made C (1 ∷ 0 ∷ []) ∷ [])
-unfolding adds made add_outcome adding pushed left_over grown taking with_entry with_serial with_link with_row
+unfolding adds add_outcome adding pushed left_over grown taking with_entry with_serial with_link with_row
     shown unfolded row_at capacity wrong_header too_wide way rows broken joined following pushing last_such side
 made_by_adds = refl

@@ -1,5 +1,5 @@
 -- A walk that makes the turns of its rule stays on its way: each row that it meets is the first one of the way ahead. This holds for every rule.
-use Prim.Native.Nat.{ℕ, zero, suc, pred, ◌+◌, ◌*◌, ◌-◌, ◌/◌, ◌%◌, ◌^◌, ◌≤◌, ◌<◌}
+use Prim.Native.Nat.{ℕ, zero, suc, pred, ◌+◌, ◌*◌, ◌/◌, ◌%◌, ◌^◌, ◌≤◌, ◌<◌}
 use mathlib.Core.Path.{◌≡◌, refl, sym, ap, ◌∙◌, subst}
 use mathlib.Core.Bool.{Bool, true, false, not, ◌&&◌, true≢false}
 use mathlib.Core.List.{List}
@@ -7,7 +7,8 @@ use native.Mathlib.Nat.{suc-ne-zero, le_trans, le_refl, lt_irrefl, pred-le, add-
 use native.Mathlib.Omega.{arith}
 use lib.Dec.{ltb, eqb}
 use borrow.Author.Tests.{lt-ltb, le-ltb, ne_eqb, ltb-true, eqb-true, eqb-false}
-use Rattle.ordered.specs.Such.{if◌then◌else◌, no_such, such, first_of, last_such, anything}
+use Rattle.std.specs.Prelude.{if◌then◌else◌}
+use Rattle.ordered.specs.Such.{no_such, such, first_of, last_such, anything}
 use Rattle.ordered.specs.Word.{Side, left, right, side_of, bit_of, is_side}
 use Rattle.ordered.specs.Dictionary.{Entry}
 use Rattle.ordered.specs.Tree.{Tree, none, row, damaged, part}

@@ -9,7 +9,7 @@ use lib.Dec.{ltb, eqb}
 use lib.ListN.{length, drop}
 use lib.Seq.{sets, sets-eq}
 use borrow.Author.Tests.{ltb-true, lt-ltb, le-ltb, eqb-true, eqb-false, eq-eqb, ne_eqb}
-use Rattle.ordered.specs.Such.{if◌then◌else◌}
+use Rattle.std.specs.Prelude.{if◌then◌else◌}
 use Rattle.ordered.specs.Word.{Side, left, right, bit_of}
 use Rattle.ordered.specs.Tree.{Tree, none, row, damaged, intact, size, entries, listing}
 use Rattle.ordered.proofs.Ways.{and_true}
@@ -18,7 +18,7 @@ use Rattle.pretree.specs.declared.Header.{Header}
 use Rattle.pretree.specs.declared.Answer.TheVariants as Answers
 use Rattle.pretree.specs.declared.Reply.{Reply}
 use Rattle.pretree.specs.declared.Row as Rows
-use Rattle.pretree.specs.declared.leg.End.TheVariants.{Row, Damage}
+use Rattle.pretree.specs.declared.leg.End.TheVariants.{Damage}
 use Rattle.pretree.specs.Table.{entry_of, capacity, row_at, link}
 use Rattle.pretree.specs.Unfold.{judged, linked, unfolded, shown}
 use Rattle.pretree.specs.Sound.{is_sound}

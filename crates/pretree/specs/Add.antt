@@ -1,8 +1,8 @@
 -- `add` on every header, table and entry: its reply, and the table after it.
 -- Document 01: "Order: 9, 1, 2, 3, 4, then 7 or 8, then 5"; "All of it is judged before anything is written."
 -- Document 02 §1: "An `add` of a word already there still answers 7, but now stores the new serial."
-use Rattle.std.specs.Prelude.{ℕ, suc, List, [], ◌∷◌, eqb}
-use Rattle.ordered.specs.Such.{if◌then◌else◌, Perhaps, no_such, such}
+use Rattle.std.specs.Prelude.{ℕ, suc, List, [], ◌∷◌, eqb, if◌then◌else◌}
+use Rattle.ordered.specs.Such.{Perhaps, no_such, such}
 use Rattle.ordered.specs.Dictionary.{Entry}
 use Rattle.ordered.specs.Way.{Step, rows, broken}
 use Rattle.ordered.specs.Change.{Take, Adding, adding}

@@ -1,13 +1,11 @@
 -- `del` on every header, table and word: its reply, and the table after it.
 -- Document 01: "The order is: keys up, unlink, move, set the link. The rows of the second way are the moving count; it is 0 where nothing
 -- moves, and in every other call." Document 02 §1: "cleared rows hold four zeros".
-use Rattle.std.specs.Prelude.{ℕ, pred, Bool, true, false, not, ◌&&◌, ◌||◌, List, [], ◌∷◌, eqb}
-use Rattle.ordered.specs.Such.{if◌then◌else◌, Perhaps, no_such, such}
+use Rattle.std.specs.Prelude.{ℕ, pred, Bool, not, ◌&&◌, ◌||◌, List, eqb, if◌then◌else◌}
 use Rattle.ordered.specs.Way.{Way, rows, broken, way, following}
-use Rattle.ordered.specs.Change.{Take, Erasing, erasing, way_ends_at, number_at, above_end}
+use Rattle.ordered.specs.Change.{Erasing, erasing, way_ends_at, number_at, above_end}
 use Rattle.pretree.specs.declared.Header.{Header}
 use Rattle.pretree.specs.declared.Answer.TheVariants.{Done, WrongHeader, WordTooWide, Damage, NoSuchWord}
-use Rattle.pretree.specs.declared.Reply.{Reply}
 use Rattle.pretree.specs.Table.{row_at, with_row, cleared}
 use Rattle.pretree.specs.Unfold.{shown}
 use Rattle.pretree.specs.Reply.{wrong_header, too_wide, refused, answered}

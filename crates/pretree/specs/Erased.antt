@@ -1,7 +1,7 @@
 -- What the small functions of `src/erase.rt` do, and what `del` has judged before it writes.
 -- Document 01: "All of it is judged before anything is written."
-use Rattle.std.specs.Prelude.{ℕ, zero, suc, pred, ◌/◌, ◌%◌, ◌^◌, ◌<◌, ◌≡◌, Bool, true, false, not, ◌&&◌, ◌||◌, List, [], ◌∷◌, ltb, eqb}
-use Rattle.ordered.specs.Such.{if◌then◌else◌, Perhaps}
+use Rattle.std.specs.Prelude.{ℕ, zero, suc, pred, ◌/◌, ◌%◌, ◌^◌, ◌<◌, ◌≡◌, Bool, true, false, not, ◌&&◌, ◌||◌, List, [], ◌∷◌, ltb, eqb, if◌then◌else◌}
+use Rattle.ordered.specs.Such.{Perhaps}
 use Rattle.ordered.specs.Word.{side_of}
 use Rattle.ordered.specs.Way.{Step, rows, broken}
 use Rattle.ordered.specs.Change.{Take, Erasing, above_end}

@@ -1,7 +1,7 @@
 -- The replies of the reading calls on every header, table and word: `has`, `next`, `prev`, `first`, `last`, `gap`. They leave the table as it is.
 -- Document 01: "Order: 9, 1, 2, 3, 4, then 7 or 8".
-use Rattle.std.specs.Prelude.{ℕ, Bool, true, false, List}
-use Rattle.ordered.specs.Such.{if◌then◌else◌, Perhaps, no_such, such}
+use Rattle.std.specs.Prelude.{ℕ, Bool, false, List, if◌then◌else◌}
+use Rattle.ordered.specs.Such.{Perhaps, no_such, such}
 use Rattle.ordered.specs.Reading.{Found, word_in, Reading, rows_of, broken_in, has, next, prev, first, last, gap}
 use Rattle.pretree.specs.declared.Header.{Header}
 use Rattle.pretree.specs.declared.Answer.{Answer}

@@ -1,6 +1,5 @@
 -- How the reading calls turn the end of a way into a reply: the contracts of their small functions.
-use Rattle.std.specs.Prelude.{ℕ, suc, ◌+◌, ◌%◌, ◌≡◌, Bool, true, false, not, ◌&&◌, ◌||◌, List, ltb, eqb}
-use Rattle.ordered.specs.Such.{if◌then◌else◌}
+use Rattle.std.specs.Prelude.{ℕ, suc, ◌+◌, ◌%◌, ◌≡◌, Bool, true, false, not, ◌&&◌, ◌||◌, List, ltb, eqb, if◌then◌else◌}
 use Rattle.ordered.specs.Word.{left, right, side_of, is_side}
 use Rattle.ordered.specs.Way.{Way, way, rows, broken, staying, down}
 use Rattle.ordered.specs.Reading.{end_row}

@@ -1,7 +1,6 @@
 -- The legs of `src/leg.rt`, which do not follow a word's bits: where a leg is, how it judges a row, and the walk that goes with it.
-use Rattle.std.specs.Prelude.{ℕ, suc, ◌+◌, ◌*◌, ◌-◌, ◌/◌, ◌^◌, ◌≤◌, ◌<◌, ◌≡◌, Bool, true, false, not, ◌&&◌, ◌||◌, List, ltb, leb, eqb}
+use Rattle.std.specs.Prelude.{ℕ, suc, ◌+◌, ◌*◌, ◌-◌, ◌/◌, ◌^◌, ◌≤◌, ◌<◌, ◌≡◌, Bool, false, not, ◌&&◌, ◌||◌, ltb, leb, eqb, if◌then◌else◌}
 use Rattle.std.specs.Int.Bits.{bit_xor, bit_and}
-use Rattle.ordered.specs.Such.{if◌then◌else◌}
 use Rattle.ordered.specs.Word.{Side, side_of, bit_of}
 use Rattle.ordered.specs.Way.{Way, Rule}
 use Rattle.pretree.specs.declared.Row as Rows

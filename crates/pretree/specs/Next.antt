@@ -1,7 +1,6 @@
 -- The steps of `src/next.rt`: the place of the next greater word once the way of k has ended, and the reply.
-use Rattle.std.specs.Prelude.{ℕ, suc, ◌+◌, ◌-◌, ltb, eqb}
+use Rattle.std.specs.Prelude.{ℕ, suc, ◌+◌, ◌-◌, ltb, eqb, if◌then◌else◌}
 use Rattle.std.specs.Int.Bits.{bit_and, bit_or}
-use Rattle.ordered.specs.Such.{if◌then◌else◌}
 use Rattle.ordered.specs.Word.{side_of}
 use Rattle.pretree.specs.declared.Header.{Header}
 use Rattle.pretree.specs.declared.Answer.TheVariants.{Word, Damage}

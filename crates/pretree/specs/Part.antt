@@ -1,9 +1,8 @@
 -- The parts of rows, as `src/whole.rt` reads them: what a row and a link show, what counting their rows gives, and when they can be listed.
-use Rattle.std.specs.Prelude.{ℕ, zero, suc, ◌+◌, ◌-◌, ◌/◌, ◌^◌, ◌≤◌, ◌<◌, ◌≡◌, Bool, true, List, length}
+use Rattle.std.specs.Prelude.{ℕ, suc, ◌+◌, ◌-◌, ◌/◌, ◌^◌, ◌≤◌, ◌<◌, ◌≡◌, true, List, length, if◌then◌else◌}
 use Rattle.std.specs.Int.Bits.{bit_and}
-use Rattle.ordered.specs.Such.{if◌then◌else◌}
 use Rattle.ordered.specs.Word.{left, right}
-use Rattle.ordered.specs.Tree.{Tree, none, row, intact, size}
+use Rattle.ordered.specs.Tree.{Tree, row, intact, size}
 use Rattle.pretree.specs.declared.Row.{Row}
 use Rattle.pretree.specs.declared.leg.Place.{Place}
 use Rattle.pretree.specs.Table.{entry_of}

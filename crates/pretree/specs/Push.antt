@@ -1,7 +1,6 @@
 -- The steps of `src/add.rt`: the push down to where `end` bits are left, the link to the new row, and the outcome.
 -- Document 01: "that row takes k and its old key is pushed down by its own bits, taking each next row's place in turn".
-use Rattle.std.specs.Prelude.{ℕ, zero, suc, ◌+◌, ◌-◌, ◌/◌, ◌%◌, ◌^◌, ◌≤◌, ◌<◌, ◌≡◌, List, [], ◌∷◌, ltb, eqb}
-use Rattle.ordered.specs.Such.{if◌then◌else◌}
+use Rattle.std.specs.Prelude.{ℕ, zero, suc, ◌+◌, ◌-◌, ◌/◌, ◌%◌, ◌^◌, ◌≤◌, ◌<◌, ◌≡◌, List, [], ◌∷◌, ltb, eqb, if◌then◌else◌}
 use Rattle.ordered.specs.Word.{Side, side_of, side}
 use Rattle.ordered.specs.Change.{Take}
 use Rattle.pretree.specs.declared.Header.{Header}

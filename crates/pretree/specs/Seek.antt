@@ -1,8 +1,7 @@
 -- The leg of `src/seek.rt`, which follows a word's bits: its steps, how it ends, and the walk of the word's way that goes with it.
-use Rattle.std.specs.Prelude.{ℕ, suc, ◌+◌, ◌*◌, ◌-◌, ◌/◌, ◌%◌, ◌^◌, ◌<◌, ◌≡◌, Bool, true, false, not, ◌&&◌, ltb, eqb}
+use Rattle.std.specs.Prelude.{ℕ, ◌+◌, ◌*◌, ◌-◌, ◌/◌, ◌%◌, ◌^◌, ◌<◌, ◌≡◌, Bool, true, false, not, ◌&&◌, ltb, eqb, if◌then◌else◌}
 use Rattle.std.specs.Int.Bits.{bit_and}
 use Rattle.std.specs.Int.Count.{count_leading_zeros}
-use Rattle.ordered.specs.Such.{if◌then◌else◌}
 use Rattle.ordered.specs.Word.{side_of}
 use Rattle.ordered.specs.Tree.{Tree}
 use Rattle.pretree.specs.declared.Header.{Header}
@@ -13,7 +12,7 @@ use Rattle.pretree.specs.declared.leg.Place.{Place}
 use Rattle.pretree.specs.declared.seek.Seek.{Seek}
 use Rattle.pretree.specs.Table.{row_words, link}
 use Rattle.pretree.specs.Leg.{EndsAs}
-use Rattle.pretree.specs.Walk.{Walk, Stage, On, AtNone, AtRow, AtDamage, stage_at, seeking, Walking, Walked}
+use Rattle.pretree.specs.Walk.{Walk, On, stage_at, seeking, Walking, Walked}
 
 abbrev pub bits_left_by : ℕ → ℕ
 bits_left_by mask = 32 - count_leading_zeros 32 mask

@@ -1,6 +1,5 @@
 -- What a table shows: its rows unfolded from the root into a tree, with damage at each place where a way would meet it.
-use Rattle.std.specs.Prelude.{ℕ, zero, suc, ◌+◌, ◌*◌, ◌/◌, ◌^◌, Bool, true, false, ◌&&◌, List, ltb, leb, eqb}
-use Rattle.ordered.specs.Such.{if◌then◌else◌}
+use Rattle.std.specs.Prelude.{ℕ, zero, suc, ◌+◌, ◌*◌, ◌/◌, ◌^◌, Bool, true, ◌&&◌, List, ltb, leb, eqb, if◌then◌else◌}
 use Rattle.ordered.specs.Word.{Side, left, right, bit_of}
 use Rattle.ordered.specs.Tree.{Tree, none, row, damaged}
 use Rattle.pretree.specs.declared.Header.{Header}

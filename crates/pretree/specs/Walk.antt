@@ -1,11 +1,11 @@
 -- A walk goes down a table row by row. The proofs follow each leg of a call by a walk; no code holds a `Walk`.
 -- This file defines the step of a walk at a row (`met`), and the relation of a walk to the way that it follows: what is still ahead, and which
 -- of the passed rows it remembers.
-use Rattle.std.specs.Prelude.{ℕ, zero, suc, pred, ◌+◌, ◌*◌, ◌-◌, ◌/◌, ◌%◌, ◌^◌, ◌≤◌, ◌<◌, ◌≡◌, Bool, true, false, not, ◌&&◌, ltb, leb, eqb, length}
-use Rattle.ordered.specs.Such.{if◌then◌else◌, Perhaps, no_such, such, first_of, last_such, anything}
+use Rattle.std.specs.Prelude.{ℕ, zero, suc, pred, ◌+◌, ◌*◌, ◌-◌, ◌/◌, ◌%◌, ◌^◌, ◌≤◌, ◌<◌, ◌≡◌, Bool, true, false, not, ◌&&◌, ltb, leb, eqb, length, if◌then◌else◌}
+use Rattle.ordered.specs.Such.{Perhaps, no_such, such, first_of, last_such, anything}
 use Rattle.ordered.specs.Word.{Side, left, right, other, side_of, bit_of, side}
 use Rattle.ordered.specs.Dictionary.{Entry, no_entry}
-use Rattle.ordered.specs.Tree.{Tree, none, row, damaged}
+use Rattle.ordered.specs.Tree.{Tree, none, damaged}
 use Rattle.ordered.specs.Way.{Way, Step, Rule, Turn, way, ending, stop, to}
 use Rattle.ordered.specs.Reading.{skipped_right}
 use Rattle.pretree.specs.declared.Header.{Header}

@@ -1,6 +1,5 @@
 -- The calls on the whole table, for every header, table and buffer: `new`, `audit`, `list`.
-use Rattle.std.specs.Prelude.{ℕ, ◌*◌, Bool, true, false, List, ◌++◌, ltb, length, drop, replicate}
-use Rattle.ordered.specs.Such.{if◌then◌else◌}
+use Rattle.std.specs.Prelude.{ℕ, ◌*◌, List, ◌++◌, ltb, length, drop, replicate, if◌then◌else◌}
 use Rattle.ordered.specs.Tree.{listing}
 use Rattle.pretree.specs.declared.Header.{Header}
 use Rattle.pretree.specs.declared.Answer.TheVariants.{Done, WrongWidth, WrongHeader, Damage, ShortBuffer}

@@ -17,7 +17,7 @@ use crate::write::{hook, put_entry, put_row, side_of};
 use crate::{Answer, Entry, Header, Reply, Row};
 
 // Where the end of a way is linked: the row above it, and the side to which the way turned there. The root is linked nowhere.
-#[derive(Drop)]
+#[derive(Clone, Copy)]
 pub struct Hook {
     pub linked: bool,
     pub above: usize,
@@ -26,7 +26,7 @@ pub struct Hook {
 
 // The stretch of an erase, which was judged: from row `from`, the row of k, `steps` rows down to the hole `row`. `hook` is where the hole is
 // linked. `rows` counts all rows read, with those of the way of k.
-#[derive(Drop)]
+#[derive(Clone, Copy)]
 pub struct Hole {
     pub from: usize,
     pub steps: u32,
@@ -37,7 +37,7 @@ pub struct Hole {
 
 // The move of the last row, which was judged: whether it is needed, whether the second way is astray (it meets damage, or does not end at the last
 // row), where the last row is linked, and the number of rows of the second way.
-#[derive(Drop)]
+#[derive(Clone, Copy)]
 pub struct Move {
     pub needed: bool,
     pub astray: bool,

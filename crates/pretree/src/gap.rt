@@ -10,7 +10,7 @@ use crate::seek::{seek_end, sought};
 use crate::{Answer, Header, Reply};
 
 // What `prev` or `next` found: a word, that there is none, or damage.
-#[derive(Drop)]
+#[derive(Clone, Copy)]
 pub enum Neighbour {
     At(u32),
     Nowhere,

@@ -14,7 +14,7 @@ use crate::table::row_at;
 use crate::{Header, Row};
 
 // How a leg ended: at an empty link, at a row, or at damage.
-#[derive(Drop)]
+#[derive(Clone, Copy)]
 pub enum End {
     None,
     Row(Row),
@@ -23,7 +23,7 @@ pub enum End {
 
 // Where a row is: its number, a mask with a one for each bit left there, the least word with the bits of the path to it, and the least key that is
 // allowed there.
-#[derive(Drop)]
+#[derive(Clone, Copy)]
 pub struct Place {
     pub row: usize,
     pub mask: u32,
@@ -32,7 +32,7 @@ pub struct Place {
 }
 
 // Where a leg is, and the last row that it passed.
-#[derive(Drop)]
+#[derive(Clone, Copy)]
 pub struct Leg {
     pub at: Place,
     pub above: usize,

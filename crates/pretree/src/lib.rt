@@ -1,6 +1,7 @@
 // The ordered set of words of 1 to 32 bits, as a PreTree in a lent table of rows.
 // This file has the types of document 01, "Header and table" and "Answer numbers". The calls are in the modules.
 // docs/FORMAT.md describes the table, the ways, the calls and the answers, and says what documents 01 and 02 are.
+#![tactic(auto)]
 
 mod add;
 mod erase;
@@ -18,7 +19,7 @@ ghost use Rattle.std.specs.Prelude.{◌≡◌};
 ghost use Rattle.pretree.specs.Reply.{fresh};
 
 // "The header is two numbers, W and the count of words."
-#[derive(Drop)]
+#[derive(Clone, Copy)]
 pub struct Header {
     pub width: u32,
     pub count: u32,
@@ -42,7 +43,7 @@ impl Header {
 
 // The kind of answer with its key or serial. `number_of`, `key_of` and `serial_of`, in specs/Answer.antt, give the documents' number, key and serial
 // for each.
-#[derive(Drop)]
+#[derive(Clone, Copy)]
 pub enum Answer {
     Done,
     // `has` found its word, which has this serial.
@@ -60,7 +61,7 @@ pub enum Answer {
 }
 
 // "Every reply is a struct: the kind of answer with its key, and the two row counts beside it."
-#[derive(Drop)]
+#[derive(Clone, Copy)]
 pub struct Reply {
     pub header: Header,
     pub answer: Answer,
@@ -69,7 +70,7 @@ pub struct Reply {
 }
 
 // A call, with its numbers: `Add` has the word and its serial. `after`, in specs/Call.antt, says what each answers and leaves.
-#[derive(Drop)]
+#[derive(Clone, Copy)]
 pub enum Call {
     New(u32),
     Add(u32, u32),
@@ -85,13 +86,13 @@ pub enum Call {
 }
 
 // What a push or an erase moves from row to row.
-#[derive(Drop)]
+#[derive(Clone, Copy)]
 pub struct Entry {
     pub key: u32,
     pub serial: u32,
 }
 
-#[derive(Drop)]
+#[derive(Clone, Copy)]
 pub struct Row {
     pub entry: Entry,
     pub left: u32,

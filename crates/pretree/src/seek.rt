@@ -15,7 +15,7 @@ use crate::leg::{End, Place, mask_of};
 use crate::table::row_at;
 use crate::{Header, Row};
 
-#[derive(Drop)]
+#[derive(Clone, Copy)]
 pub struct Seek {
     // the table word at which the next row begins. The row's number is not held: that would cost instructions at each row.
     pub at: usize,

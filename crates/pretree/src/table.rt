@@ -24,6 +24,7 @@ pub(crate) fn row_at(table: &[u32], i: usize) -> Row
 }
 
 // "capacity the length divided by 4, at most 65,535"
+#[tactic(auto, unfolding(crate::specs::Table::capacity))]
 pub(crate) fn capacity(table: &[u32]) -> u32
     ensures { result ≡ capacity table.now }
 {

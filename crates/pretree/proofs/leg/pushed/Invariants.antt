@@ -1,0 +1,17 @@
+-- The loop keeps `Follows`: every walk that was where the leg began has continued to where the leg is. The mask decreases.
+use Prim.Native.Nat.{◌≤◌}
+use Rattle.ordered.specs.Way.{pushing}
+use Rattle.pretree.specs.Table.{capacity, row_at}
+use Rattle.pretree.specs.Walk.{stage_at}
+use Rattle.pretree.specs.Leg.{BegunLeg}
+use Rattle.pretree.proofs.Legs.{Follows}
+use Rattle.pretree.proofs.leg.pushed.Given as goal
+
+abbrev pub invariant-loop-i : goal.invariant-loop-i
+invariant-loop-i l =
+    (l.count ≤ capacity l.table)
+    × BegunLeg l.count stage_at l.initial.leg
+    × Follows (row_at l.table) pushing l.count stage_at l.initial.leg l.leg
+
+abbrev pub decreases-loop-i : goal.decreases-loop-i
+decreases-loop-i l = l.leg.at.mask
