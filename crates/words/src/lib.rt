@@ -1,6 +1,7 @@
 // The calls of `pretree` for a program in C, as tests/speed calls them: plain numbers and a table of 32-bit words go in, and the reply comes
 // back as seven numbers. Each function is its call and adds nothing, so a caller may give any numbers: a refusal is an answer.
 // A slice is a pointer and a number of words, in C's order of arguments; `reply` is a pointer to seven words.
+#![tactic(auto)]
 
 ghost use Rattle.std.specs.Prelude.{◌≡◌};
 ghost use Rattle.pretree.specs.Find.{has_reply, next_reply, prev_reply, first_reply, last_reply, gap_reply};

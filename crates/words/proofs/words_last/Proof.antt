@@ -1,8 +1,0 @@
--- The seven numbers are those of the call's reply.
-use mathlib.Core.Path.{ap, ◌∙◌}
-use Rattle.words.specs.Packed.{packed}
-use Rattle.words.proofs.words_last.Statement.{statement}
-use Rattle.words.proofs.words_last.Tie as tie
-
-pub words-last-spec : {M : Type 1} → statement M
-words-last-spec = tie.close (tie.spec (λ c κs. tt) (λ c κs. tt) (λ c. c.packed.ensures ∙ ap packed c.before.last.ensures))

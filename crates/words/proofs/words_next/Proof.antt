@@ -1,8 +1,0 @@
--- The seven numbers are those of the call's reply.
-use mathlib.Core.Path.{ap, ◌∙◌}
-use Rattle.words.specs.Packed.{packed}
-use Rattle.words.proofs.words_next.Statement.{statement}
-use Rattle.words.proofs.words_next.Tie as tie
-
-pub words-next-spec : {M : Type 1} → statement M
-words-next-spec = tie.close (tie.spec (λ c κs. tt) (λ c κs. tt) (λ c. c.packed.ensures ∙ ap packed c.before.next.ensures))
