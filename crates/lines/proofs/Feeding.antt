@@ -1,5 +1,5 @@
 -- A session takes its input part by part.
-use Prim.Native.Nat.{ℕ, zero, suc, ◌+◌, ◌*◌, ◌-◌, ◌^◌, ◌≤◌, ◌<◌}
+use Prim.Native.Nat.{ℕ, suc, ◌+◌, ◌*◌, ◌-◌, ◌^◌, ◌≤◌, ◌<◌}
 use mathlib.Core.Path.{◌≡◌, refl, sym, ap, ◌∙◌}
 use mathlib.Core.Bool.{true, false}
 use mathlib.Core.List.{List, [], ◌∷◌, ◌++◌, append_assoc, append-nil}
@@ -7,15 +7,13 @@ use mathlib.Core.Logic.{⊎_elim}
 use native.Mathlib.Nat.{add-zero}
 use native.Mathlib.Omega.{arith}
 use lib.Dec.{eqb}
-use lib.ListN.{length, take, drop, length-drop}
+use lib.ListN.{length, take, drop}
 use lib.Seq.{take-add, drop-drop}
 use Rattle.lines.specs.Line.{parse}
-use Rattle.lines.specs.Render.{Put}
 use Rattle.lines.specs.Output.{State, Session, answer, written_for, state_after, ended, unended, session_after, written_for_piece}
 use Rattle.lines.specs.Gather.{until_end, HoldsLine}
-use Rattle.lines.specs.declared.session.Session.{Session as CodeSession}
 use Rattle.lines.specs.declared.session.Progress.{Progress}
-use Rattle.lines.specs.Answering.{state_of, session_of, Answers, Feeds, FeedsFromHeld, Advances}
+use Rattle.lines.specs.Answering.{session_of, Answers, Feeds, FeedsFromHeld, Advances}
 use Rattle.lines.proofs.Tests.{either}
 use Rattle.lines.proofs.Finding.{until_first, until_later}
 use Rattle.lines.proofs.Puts.{put_then}

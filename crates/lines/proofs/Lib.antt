@@ -1,4 +1,4 @@
--- The proof files by what they serve. The proof of a function is in the folder of its source file, as parse/numbered/Proof.antt.
+-- The proof files by what they serve. The proof of a function is in the folder of its source file, as parse/parse/Answers.antt.
 
 -- promises of docs/PROMISES.md: `any_pieces` and `written_by_end`; `answers_nine`; `reads_back`; `example_agrees`
 pub mod Pieces
@@ -8,7 +8,7 @@ pub mod Examples
 -- reading a line: `parse`, `by_head` and the functions that it calls; `add`, and `answers_nine`
 pub mod Heads
 pub mod TwoNumbers
--- answering a line: `run_read_only`; `key_of` and `serial_of`; `run`, `reply_to` and `answer`
+-- answering a line: laws on calls that only read and on answers without a key or serial; `reply_to` and `answer`
 pub mod ReadOnly
 pub mod Keys
 pub mod Running

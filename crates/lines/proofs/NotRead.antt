@@ -9,7 +9,8 @@ use native.Mathlib.Omega.{arith}
 use borrow.Author.Tests.{eq-eqb, eqb-true, le-ltb, ltb-true, ltb-false}
 use lib.Dec.{T, ltb, eqb}
 use lib.ListN.{length, take, drop, take-append-drop}
-use Rattle.ordered.specs.Such.{if◌then◌else◌, Perhaps, no_such, such}
+use Rattle.std.specs.Prelude.{if◌then◌else◌}
+use Rattle.ordered.specs.Such.{Perhaps, no_such, such}
 use Rattle.ordered.specs.Source004.{◌∈◌}
 use Rattle.pretree.specs.declared.Answer.{Answer}
 use Rattle.pretree.specs.declared.Answer.TheVariants.{Done, Serial, Word, Distance, WrongWidth, WrongHeader, WordTooWide, Damage, Full, ShortBuffer, AlreadyThere, NoSuchWord}

@@ -1,12 +1,12 @@
 -- How an input is cut into pieces does not matter: what is written for the pieces, and at their end, is what is written for the whole.
 use Prim.Native.Nat.{ℕ}
-use mathlib.Core.Path.{◌≡◌, refl, sym, ◌∙◌}
-use mathlib.Core.Bool.{Bool, true, false}
+use mathlib.Core.Path.{◌≡◌, refl}
+use mathlib.Core.Bool.{true, false}
 use mathlib.Core.List.{List, [], ◌∷◌, ◌++◌, append_assoc}
-use mathlib.Core.Logic.{◌⊎◌, inl, inr, ⊎_elim}
+use mathlib.Core.Logic.{⊎_elim}
 use lib.Dec.{eqb}
 use Rattle.lines.specs.Line.{parse}
-use Rattle.lines.specs.Output.{State, answer, written_for, state_after, ended, unended, last, lines_of, output}
+use Rattle.lines.specs.Output.{State, answer, written_for, state_after, ended, unended, lines_of, output}
 use Rattle.lines.specs.Output.{Session, start_session, session_after, written_for_piece, written_at_end, output_in_pieces, joined}
 use Rattle.lines.proofs.Tests.{either}
 

@@ -1,13 +1,13 @@
 -- A number that is written reads back as itself.
-use Prim.Native.Nat.{ℕ, ◌+◌, ◌*◌, ◌-◌, ◌/◌, ◌%◌, ◌≤◌, ◌<◌}
-use mathlib.Core.Path.{◌≡◌, refl, sym, ap, ◌∙◌}
-use mathlib.Core.Bool.{true, false, ◌&&◌}
+use Prim.Native.Nat.{ℕ, ◌+◌, ◌*◌, ◌-◌, ◌/◌, ◌%◌, ◌≤◌}
+use mathlib.Core.Path.{◌≡◌, refl, ◌∙◌}
+use mathlib.Core.Bool.{true, false}
 use mathlib.Core.List.{List, [], ◌∷◌, ◌++◌}
 use mathlib.Core.Logic.{⊎_elim}
 use native.Mathlib.Omega.{arith}
 use borrow.Author.Tests.{ne_eqb, ltb-true, ltb-false}
-use lib.Dec.{ltb, eqb}
-use lib.ListN.{length, get_or, get_or-append}
+use lib.Dec.{ltb}
+use lib.ListN.{get_or, get_or-append}
 use Rattle.numbers.specs.declared.Number.TheVariants.{Of}
 use Rattle.numbers.specs.Decimal.{is_digit, are_digits, spelt, leads_with_zero, read_number}
 use Rattle.numbers.proofs.Laws.{digit_is, one_digit, digits_more, number_is}

@@ -1,7 +1,7 @@
 -- How the code finds a line's word: by the first four bytes of the line as one number, its head. Every word of the language is at least four
 -- bytes long, with its tab where it has one. proofs/Heads.antt shows that this gives `parse`.
-use Rattle.std.specs.Prelude.{ℕ, ◌+◌, ◌*◌, List, [], ◌∷◌, eqb, get_or, drop}
-use Rattle.ordered.specs.Such.{if◌then◌else◌, Perhaps, no_such, such}
+use Rattle.std.specs.Prelude.{ℕ, ◌+◌, ◌*◌, List, [], ◌∷◌, eqb, get_or, drop, if◌then◌else◌}
+use Rattle.ordered.specs.Such.{Perhaps, no_such}
 use Rattle.pretree.specs.declared.Call.{Call}
 use Rattle.pretree.specs.declared.Call.TheVariants.{New, Del, Has, Next, Prev, Gap}
 use Rattle.numbers.specs.Decimal.{read_number}

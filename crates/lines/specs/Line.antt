@@ -3,9 +3,9 @@
 -- nothing after. [..] Anything else, a line above 64 bytes (its byte 10 not counted) or an empty line included, is answer 9." Crate `numbers` says
 -- what a number is.
 -- Document 02 §1: "In the program `add` takes a second number after a second tab".
-use Rattle.std.specs.Prelude.{ℕ, List, [], ◌∷◌, ◌++◌, ltb, eqb, length, take, drop}
+use Rattle.std.specs.Prelude.{ℕ, List, [], ◌∷◌, ◌++◌, ltb, eqb, length, take, drop, if◌then◌else◌}
 use Prim.Native.String.{String}
-use Rattle.ordered.specs.Such.{if◌then◌else◌, Perhaps, no_such, such, first_of}
+use Rattle.ordered.specs.Such.{Perhaps, no_such, such, first_of}
 use Rattle.pretree.specs.declared.Call.{Call}
 use Rattle.pretree.specs.declared.Call.TheVariants.{New, Add, Del, Has, Next, Prev, Gap, First, Last, Audit}
 use Rattle.numbers.specs.declared.Number.{Number}

@@ -1,7 +1,6 @@
 -- The whole output for a whole input, as one function from the bytes read to the bytes written; and the output for an input that comes in
 -- pieces. Document 01, "The line program".
-use Rattle.std.specs.Prelude.{ℕ, suc, ◌*◌, List, [], ◌∷◌, ◌++◌, eqb, take, replicate}
-use Rattle.ordered.specs.Such.{if◌then◌else◌}
+use Rattle.std.specs.Prelude.{ℕ, suc, ◌*◌, List, [], ◌∷◌, ◌++◌, eqb, take, replicate, if◌then◌else◌}
 use Rattle.pretree.specs.Table.{row_words}
 use Rattle.pretree.specs.declared.Header.{Header}
 use Rattle.pretree.specs.declared.Reply.{Reply}

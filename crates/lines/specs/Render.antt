@@ -2,9 +2,9 @@
 -- Document 01: "Each line gives one reply line: line number from 1, answer number, key or `-`, rows read, moving count, parted by tabs. After
 -- a `list` with answer 0 come lines `key`, tab, word."
 -- Document 02 §1: "every reply line ends with one more field: the serial for a `has` that found its word, `-` elsewhere."
-use Rattle.std.specs.Prelude.{ℕ, zero, suc, ◌+◌, ◌/◌, ◌%◌, ◌≡◌, List, [], ◌∷◌, ◌++◌, ltb, length}
+use Rattle.std.specs.Prelude.{ℕ, zero, suc, ◌+◌, ◌/◌, ◌%◌, ◌≡◌, List, [], ◌∷◌, ◌++◌, ltb, length, if◌then◌else◌}
 use Rattle.std.proofs.lemmas.List.Edits.{sets}
-use Rattle.ordered.specs.Such.{if◌then◌else◌, Perhaps, no_such, such}
+use Rattle.ordered.specs.Such.{Perhaps, no_such, such}
 use Rattle.pretree.specs.declared.Reply.{Reply}
 use Rattle.pretree.specs.Answer.{number_of, key_of, serial_of}
 use Rattle.numbers.specs.declared.Number.{Number}

@@ -1,6 +1,5 @@
 -- What the loop over standard input keeps from piece to piece, and what it writes.
-use Rattle.std.specs.Prelude.{ℕ, zero, suc, ◌+◌, ◌*◌, ◌-◌, ◌≤◌, ◌≡◌, Bool, true, List, [], ◌∷◌, length, take}
-use Rattle.ordered.specs.Such.{if◌then◌else◌}
+use Rattle.std.specs.Prelude.{ℕ, zero, suc, ◌+◌, ◌*◌, ◌-◌, ◌≤◌, ◌≡◌, Bool, true, List, [], ◌∷◌, length, take, if◌then◌else◌}
 use Rattle.lines.specs.declared.session.Session.{Session as CodeSession}
 use Rattle.lines.specs.declared.serve.PieceResult.{PieceResult}
 use Rattle.lines.specs.Output.{Session, start_session, session_after, written_for_piece}

@@ -1,9 +1,8 @@
 -- The bytes of a quoted text. With it the specs have the words of the line language as document 01 prints them.
 -- Also the place of a byte in a text.
-use Rattle.std.specs.Prelude.{ℕ, suc, List, eqb}
+use Rattle.std.specs.Prelude.{ℕ, suc, List, eqb, if◌then◌else◌}
 use Prim.Native.Char.{code}
 use Prim.Native.String.{String}
-use Rattle.ordered.specs.Such.{if◌then◌else◌}
 
 abbrev pub bytes : String → List ℕ
 bytes String.[] = List.[]

@@ -13,7 +13,7 @@ use crate::{Line, ReplyFields};
 use pretree::{Call, Header, Reply};
 
 // The reply to a call, and how many words of the buffer are listed after it.
-#[derive(Drop)]
+#[derive(Clone, Copy)]
 pub struct CallResult {
     pub reply: Reply,
     pub listed: u32,
@@ -40,6 +40,7 @@ fn with_listing(reply: Reply) -> CallResult
     }
 }
 
+#[tactic(auto, unfolding(pretree::specs::Call::after, crate::specs::Output::listed_by, crate::specs::Answering::read_only_reply))]
 pub fn run(call: Call, header: Header, table: &mut [u32], words: &mut [u32]) -> CallResult
     ensures { Runs call (after call header table.old words.old) result table.new words.new }
 {
@@ -53,6 +54,7 @@ pub fn run(call: Call, header: Header, table: &mut [u32], words: &mut [u32]) -> 
 }
 
 // The calls that change neither the table nor the buffer. `run` passes no other call; one would be taken for `audit`.
+#[tactic(auto, unfolding(crate::specs::Answering::read_only_reply))]
 fn run_read_only(call: Call, header: Header, table: &[u32]) -> Reply
     ensures { result ≡ read_only_reply header table.now call }
 {
@@ -68,7 +70,7 @@ fn run_read_only(call: Call, header: Header, table: &[u32]) -> Reply
 }
 
 // What a line is replied with: the header after it, the fields of its reply line, and how many words of the buffer are listed after that line.
-#[derive(Drop)]
+#[derive(Clone, Copy)]
 pub struct LineReply {
     pub header: Header,
     pub fields: ReplyFields,
@@ -76,7 +78,7 @@ pub struct LineReply {
 }
 
 // The header after a line, and the place in `out` after its reply.
-#[derive(Drop)]
+#[derive(Clone, Copy)]
 pub struct LineResult {
     pub header: Header,
     pub next: usize,

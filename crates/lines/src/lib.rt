@@ -1,5 +1,6 @@
 // The line language of the bench: reading a line, and writing the reply to it.
 // Document 01, "The line program"; docs/FORMAT.md, "The line language".
+#![tactic(auto)]
 
 // `answer`, `parse` and `reply` are public because crate `raw` uses them too.
 pub mod answer;
@@ -16,14 +17,14 @@ use pretree::Call;
 pub use serve::run;
 
 // What a line is read as. "Anything else [..] is answer 9."
-#[derive(Drop)]
+#[derive(Clone, Copy)]
 pub enum Line {
     Read(Call),
     Unread,
 }
 
 // The fields of a reply line after its line number.
-#[derive(Drop)]
+#[derive(Clone, Copy)]
 pub struct ReplyFields {
     pub answer: u32,
     pub key: Number,

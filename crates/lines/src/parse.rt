@@ -11,7 +11,7 @@ use numbers::{Number, read_number};
 use pretree::Call;
 
 // The words that are followed by one number.
-#[derive(Drop)]
+#[derive(Clone, Copy)]
 pub enum Word {
     New,
     Del,
@@ -56,6 +56,7 @@ fn packed(a: u8, b: u8, c: u8, d: u8) -> u32
     ((a as u32 * 256 + b as u32) * 256 + c as u32) * 256 + d as u32
 }
 
+#[tactic(auto, unfolding(crate::specs::Head::by_head, crate::specs::Head::numbered, crate::specs::Head::numbered_after, crate::specs::Head::alone_after, crate::specs::Line::after_word))]
 fn by_head(head: u32, rest: &[u8]) -> Line
     ensures { result ≡ by_head head rest.now }
 {
@@ -79,6 +80,7 @@ fn by_head(head: u32, rest: &[u8]) -> Line
     }
 }
 
+#[tactic(auto, unfolding(crate::specs::Head::numbered))]
 fn numbered(word: Word, digits: &[u8]) -> Line
     ensures { result ≡ line_of (numbered word digits.now) }
 {

@@ -34,6 +34,7 @@ pub fn not_read() -> ReplyFields
     }
 }
 
+#[tactic(auto, unfolding(pretree::specs::Answer::number_of))]
 pub(crate) fn number_of(answer: Answer) -> u32
     ensures { result ≡ number_of answer }
 {
@@ -53,6 +54,7 @@ pub(crate) fn number_of(answer: Answer) -> u32
     }
 }
 
+#[tactic(auto, unfolding(pretree::specs::Answer::key_of))]
 fn key_of(answer: Answer) -> Number
     ensures { result ≡ as_number (key_of answer) }
 {
@@ -64,6 +66,7 @@ fn key_of(answer: Answer) -> Number
 }
 
 // Document 02 §1: "the serial for a `has` that found its word, `-` elsewhere"
+#[tactic(auto, unfolding(pretree::specs::Answer::serial_of))]
 fn serial_of(answer: Answer) -> Number
     ensures { result ≡ as_number (serial_of answer) }
 {

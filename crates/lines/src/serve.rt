@@ -1,38 +1,41 @@
 // The line program over standard input and standard output: large reads, and one write for each, or more if `out` is full.
-// No contract can say what a read puts into `input`, or what a write does. Everything between them has a contract: the start, the piece after
+// No contract says what a read puts into `input`, or what a write does. Everything between them has a contract: the start, the piece after
 // a read, the session after a piece, and the bytes that are handed to a write. How the input is cut into pieces does not matter: proofs/Pieces.antt.
 
-ghost use Rattle.std.specs.Prelude.{◌≡◌, ◌+◌, ◌*◌, ◌<◌, ◌≤◌, ◌^◌, length, take};
+ghost use Rattle.std.specs.Prelude.{◌≡◌, ◌+◌, ◌*◌, ◌<◌, ◌≤◌, ◌^◌, length, take, IfOk};
 ghost use Rattle.lines.specs.Output.{start_session};
 ghost use Rattle.lines.specs.Serving.{Sizes, Keeps, Reached, IsOutput, piece_of, turns_left, Takes};
 
 use crate::session::{Progress, Session, feed};
-use libc::{STDERR_FILENO, STDIN_FILENO, STDOUT_FILENO};
 use pretree::Header;
-
-// The descriptor where `./run` learns that every reply was written.
-const OUTCOME_FILENO: i32 = 3;
+use std::fmt::Display;
+use std::io;
+use std::io::{Eprint, Input, Print, Read, Write};
+use std::process::ExitCode;
 
 // The session after a piece, and whether every reply to it was written.
-#[derive(Drop)]
+#[derive(Clone, Copy)]
 pub struct PieceResult {
     pub session: Session,
     pub written: bool,
 }
 
 // "Table of 4,096 rows, all zeros, and a `list` buffer of 4,096 words. Header at the start: W 0, count 0."
-pub fn run() {
+// The status is a success once the input was read to its end and every reply was written.
+pub fn run<R: Input + Print + Eprint>(rt: &R) -> ExitCode {
     let mut table = [0u32; 16384];
     let mut words = [0u32; 4096];
     let mut buffer = [0u8; 65];
-    let mut input = io::large_buffer();
+    let mut input = [0u8; 65536];
     let mut out = [0u8; 131072];
     let session = Session {
         header: Header::fresh(0),
         lines: 0,
         held: 0,
     };
-    serve(
+    let served = serve(
+        &mut rt.reader(),
+        &mut io::writer(rt),
         session,
         &mut input,
         &mut table,
@@ -40,18 +43,21 @@ pub fn run() {
         &mut buffer,
         &mut out,
     );
+    finish(rt, served)
 }
 
 // A proved loop has to end, and nothing says that the input does. So the loop counts its turns down, from a number that no run uses up:
-// at 65,536 bytes a turn, that is 2^63 bytes.
-fn serve(
+// at 65,536 bytes a turn, that is 2^63 bytes. Returns whether every reply was written, or the error of a read that failed.
+fn serve<R: Read, W: Write>(
+    reader: &mut R,
+    writer: &mut W,
     session: Session,
     input: &mut [u8],
     table: &mut [u32],
     words: &mut [u32],
     buffer: &mut [u8],
     out: &mut [u8],
-)
+) -> io::Result<bool>
     requires keeps { Keeps start_session session table.old words.old buffer.old }
     requires sizes { Sizes words.old buffer.old out.old }
     requires input_nonzero { (0 < length input.old) × (length input.old ≤ 65536) }
@@ -62,29 +68,44 @@ fn serve(
         written: true,
     };
     while 0 < turns {
-        let count = read(input);
-        result = take_in(result.session, count, input, table, words, buffer, out);
+        let count = read(reader, input)?;
+        result = take_in(
+            writer,
+            result.session,
+            count,
+            input,
+            table,
+            words,
+            buffer,
+            out,
+        );
         turns = turns_left(turns, count, result.written);
     }
-    finish(result.written);
+    Ok(result.written)
 }
 
-// A program has no exit status. So it writes `ok` to descriptor 3 once every reply is written, and `./run` ends with 0 only then. A failed write is
-// reported on standard error.
-fn finish(written: bool) {
-    if written {
-        io::write_all(OUTCOME_FILENO, b"ok\n");
-    } else {
-        io::write_all(STDERR_FILENO, b"a write failed: replies are missing\n");
+// A read or a write that failed is reported on standard error.
+fn finish<R: Eprint>(rt: &R, served: io::Result<bool>) -> ExitCode {
+    match served {
+        Ok(true) => ExitCode::SUCCESS,
+        Ok(false) => failure(rt, "a write failed: replies are missing"),
+        Err(e) => failure(rt, format_args!("a read failed: {e}")),
     }
 }
 
-// The only place where the program reads. Returns the number of bytes at the front of `input`, which is 0 at the end of input.
-fn read(input: &mut [u8]) -> usize
-    ensures { result ≤ length input.new }
+// The program ends with this status anyway, so it does not matter if the message is not written.
+fn failure<R: Eprint, D: Display + Drop>(rt: &R, message: D) -> ExitCode {
+    let _ = rt.eprintln(message);
+    ExitCode::FAILURE
+}
+
+// The only place where the program reads. Returns the number of bytes at the front of `input`, which is 0 at the end of input. The only error is
+// that of a read that failed; `input` may then hold any bytes.
+fn read<R: Read>(reader: &mut R, input: &mut [u8]) -> io::Result<usize>
+    ensures count { IfOk result (λ n. n ≤ length input.new) }
+    ensures size { length input.new ≡ length input.old }
 {
-    let got = libc::read(STDIN_FILENO, input);
-    io::count(got, input)
+    reader.read(input)
 }
 
 // No turn is left after the end of input, nor after a failed write.
@@ -101,7 +122,8 @@ fn turns_left(turns: u64, count: usize, written: bool) -> u64
 }
 
 // Takes in the `count` bytes that a read left in `input`.
-fn take_in(
+fn take_in<W: Write>(
+    writer: &mut W,
     session: Session,
     count: usize,
     input: &mut [u8],
@@ -119,7 +141,7 @@ fn take_in(
         result table.new words.new buffer.new }
 {
     let n = put_piece(count, session.held, input);
-    answer_piece(session, &input[..n], table, words, buffer, out)
+    answer_piece(writer, session, &input[..n], table, words, buffer, out)
 }
 
 // "or at the end of input if bytes are left": there the last piece is a byte 10, which ends their line.
@@ -139,7 +161,8 @@ fn put_piece(count: usize, held: usize, input: &mut [u8]) -> usize
 }
 
 // Takes in a piece and writes the replies to it. Stops at a write that fails.
-fn answer_piece(
+fn answer_piece<W: Write>(
+    writer: &mut W,
     session: Session,
     piece: &[u8],
     table: &mut [u32],
@@ -169,7 +192,7 @@ fn answer_piece(
             out,
         );
         let n = progress.next;
-        if !write(&out[..n]) {
+        if !write(writer, &out[..n]) {
             return piece_result(progress, false);
         }
     }
@@ -184,8 +207,8 @@ fn piece_result(progress: Progress, written: bool) -> PieceResult
 }
 
 // The only place where replies are written.
-fn write(text: &[u8]) -> bool
+fn write<W: Write>(writer: &mut W, text: &[u8]) -> bool
     requires { IsOutput text.now }
 {
-    io::write_all(STDOUT_FILENO, text)
+    writer.write_all(text).is_ok()
 }

@@ -9,7 +9,7 @@ use crate::gather::hold;
 use pretree::Header;
 
 // What is kept between two pieces: the header, how many lines were answered, and how many bytes of a line are held.
-#[derive(Drop)]
+#[derive(Clone, Copy)]
 pub struct Session {
     pub header: Header,
     pub lines: u64,
@@ -17,7 +17,7 @@ pub struct Session {
 }
 
 // The session after a part of a piece, the place in the piece after that part, and the place in `out` after the replies.
-#[derive(Drop)]
+#[derive(Clone, Copy)]
 pub struct Progress {
     pub session: Session,
     pub from: usize,

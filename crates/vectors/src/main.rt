@@ -1,5 +1,8 @@
 // The line program on lines that tests/model/vectors.py makes from seed 1: small and large widths, lines that are not read, and a last line without a byte 10.
+#![tactic(auto)]
 
-fn main() {
-    lines::run();
+use std::process::ExitCode;
+
+fn main(rt: HostRuntime) -> ExitCode {
+    lines::run(&rt)
 }
