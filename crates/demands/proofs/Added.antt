@@ -8,7 +8,8 @@ use native.Mathlib.Omega.{arith}
 use lib.Dec.{ltb, leb, eqb}
 use lib.ListN.{length}
 use borrow.Author.Tests.{ltb-false, leb-false, lt-ltb, le-ltb, eqb-false, ne_eqb}
-use Rattle.ordered.specs.Such.{if◌then◌else◌, no_such, such, first_of, first_such, last_such, anything, is_there}
+use Rattle.std.specs.Prelude.{if◌then◌else◌}
+use Rattle.ordered.specs.Such.{no_such, such, first_of, first_such, last_such, anything, is_there}
 use Rattle.ordered.specs.Dictionary.{Entry, words, insert, lookup}
 use Rattle.ordered.specs.Word.{Side, left, right, side}
 use Rattle.ordered.specs.Source004.{◌∈◌}
@@ -27,22 +28,18 @@ use Rattle.ordered.proofs.Unbroken.{adding_unbroken}
 use Rattle.pretree.specs.declared.Header.{Header}
 use Rattle.pretree.specs.declared.Answer.TheVariants.{Done, WordTooWide, Full, AlreadyThere}
 use Rattle.pretree.specs.declared.Row.{Row}
-use Rattle.pretree.specs.Answer.{number_of, key_of}
 use Rattle.pretree.specs.Table.{capacity, row_at, leaf_row, with_row}
 use Rattle.pretree.specs.Unfold.{unfolded, shown}
 use Rattle.pretree.specs.Reply.{wrong_width, wrong_header, too_wide, refused, answered}
-use Rattle.pretree.specs.Add.{entry_for, Outcome, taking, hooking, grown, add_outcome}
+use Rattle.pretree.specs.Add.{Outcome, taking, hooking, grown, add_outcome}
 use Rattle.pretree.proofs.Writing.{same_capacity}
 use Rattle.pretree.proofs.Rows.{HasRow, has_row, rows_fit, row_written, row_elsewhere, taking_length, hooking_length}
-use Rattle.pretree.specs.declared.Call.TheVariants.{Add}
-use Rattle.pretree.specs.Call.{After, after}
-use Rattle.demands.specs.Expected.{AnswerFields, Kept, only, expected, changed, kept_after}
-use Rattle.demands.specs.Demand2.{Holding, Keeps, kept_by, KeepsDictionary}
+use Rattle.demands.specs.Demand2.{Holding}
 use Rattle.demands.proofs.Words.{all_words}
 use Rattle.demands.proofs.Tested.{shown_as, shown_once}
 use Rattle.demands.proofs.Owned.{added_kept}
 use Rattle.demands.proofs.SoundIs.{held_by_entries}
-use Rattle.demands.proofs.Answered.{undamaged, holds_entries, proper, narrow, nothing_changed}
+use Rattle.demands.proofs.Answered.{undamaged, holds_entries, proper, narrow}
 use Rattle.demands.proofs.Spelled.{RowSpelled, Spelled, no_row, a_row, root_number, unfolded_spelled, spelled_shows}
 use Rattle.demands.proofs.Rewritten.{Once, SamePlaces, no_place, one_place, same_places, shifted_places, joined_places, same_numbers, none_part, entries_taken, end_hooked, unchanged_taken, taking_both}
 

@@ -1,20 +1,21 @@
 -- Demand 2 for the calls that write no row (`has`, `next`, `prev`, `gap`, `first`, `last`, `audit`, `list`), and for `new`.
 use Prim.Native.Nat.{ℕ, ◌*◌, ◌/◌, ◌^◌}
-use mathlib.Core.Path.{◌≡◌, refl, sym, ap, ◌∙◌}
+use mathlib.Core.Path.{◌≡◌, refl, ap, ◌∙◌}
 use mathlib.Core.Bool.{Bool, true, false, ◌||◌}
 use mathlib.Core.List.{List, [], ◌++◌}
 use native.Mathlib.Omega.{arith}
 use lib.Dec.{ltb, leb, eqb}
 use lib.ListN.{length, drop, replicate}
 use borrow.Author.Tests.{leb-false, le-ltb}
-use Rattle.ordered.specs.Such.{if◌then◌else◌, Perhaps, no_such, such, its, is_there}
+use Rattle.std.specs.Prelude.{if◌then◌else◌}
+use Rattle.ordered.specs.Such.{Perhaps, no_such, such, its, is_there}
 use Rattle.ordered.specs.Dictionary.{Entry, words, word_of, lookup, min, max, successor, predecessor}
 use Rattle.ordered.specs.Tree.{Tree, entries, intact}
 use Rattle.ordered.specs.Proper.{Proper}
 use Rattle.ordered.specs.Reading.{Found, word_in, entry_in, Reading, rows_of, broken_in, nearest}
 use Rattle.ordered.specs.Reading.{has as has_read, next as next_read, prev as prev_read, first as first_read, last as last_read, gap as gap_read}
 use Rattle.ordered.proofs.Bits.{on_root_path}
-use Rattle.ordered.proofs.Answers.{there_entry, word_entry, has_answer, next_answer, prev_answer, gap_answer, first_answer, last_answer}
+use Rattle.ordered.proofs.Answers.{word_entry, has_answer, next_answer, prev_answer, gap_answer, first_answer, last_answer}
 use Rattle.ordered.proofs.Unbroken.{has_unbroken, next_unbroken, prev_unbroken, gap_unbroken, first_unbroken, last_unbroken}
 use Rattle.pretree.specs.declared.Header.{Header}
 use Rattle.pretree.specs.declared.Answer.{Answer}

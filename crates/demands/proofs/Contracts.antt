@@ -1,10 +1,8 @@
 -- The proofs of specs/Contracts.antt. Each `Post` computes to what the `ensures` clauses claim: an equation for the reply, and one for the words
 -- lent as `&mut`.
-use Prim.Native.Nat.{ℕ}
 use mathlib.Core.Path.{◌≡◌, sym, ap, ◌∙◌, fun_ext}
 use mathlib.Core.Logic.{◌↔◌}
-use mathlib.Core.List.{List, []}
-use Rattle.pretree.specs.declared.Header.{Header}
+use mathlib.Core.List.{[]}
 use Rattle.pretree.specs.declared.Call.{Call}
 use Rattle.pretree.specs.declared.Call.TheVariants.{New, Add, Del, Has, Next, Prev, Gap, First, Last, Audit}
 use Rattle.pretree.specs.Call.{After, after}

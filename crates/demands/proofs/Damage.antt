@@ -7,7 +7,8 @@ use mathlib.Core.List.{List, [], ◌∷◌}
 use native.Mathlib.Omega.{arith}
 use lib.Dec.{ltb, leb, eqb}
 use borrow.Author.Tests.{ltb-false, leb-false, eqb-false, lt-leb}
-use Rattle.ordered.specs.Such.{if◌then◌else◌, Perhaps, no_such, such, only_if, is_there}
+use Rattle.std.specs.Prelude.{if◌then◌else◌}
+use Rattle.ordered.specs.Such.{Perhaps, no_such, such, only_if, is_there}
 use Rattle.ordered.specs.Word.{Side, left, right, bit_of, side}
 use Rattle.ordered.specs.Source004.{Whether}
 use Rattle.ordered.specs.Dictionary.{Entry}

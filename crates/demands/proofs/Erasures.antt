@@ -8,13 +8,14 @@ use native.Mathlib.Omega.{arith}
 use lib.Dec.{eqb}
 use lib.ListN.{length}
 use borrow.Author.Tests.{eqb-true, eqb-false, ne_eqb}
-use Rattle.ordered.specs.Such.{if◌then◌else◌, Perhaps, no_such, such, first_of, first_such, only_if, is_there}
+use Rattle.std.specs.Prelude.{if◌then◌else◌}
+use Rattle.ordered.specs.Such.{Perhaps, no_such, such, first_of, first_such, only_if, is_there}
 use Rattle.ordered.specs.Word.{Side, left, right, bit_of}
 use Rattle.ordered.specs.Dictionary.{Entry, words, Increasing, none_increasing, one_increasing, delete, lookup}
 use Rattle.ordered.specs.Source004.{◌∈◌}
 use Rattle.ordered.specs.Tree.{Tree, none, row, damaged, part, exists, entries, listing, intact}
 use Rattle.ordered.specs.Proper.{Proper}
-use Rattle.ordered.specs.Way.{Step, Rule, stop, to, way, rows, down}
+use Rattle.ordered.specs.Way.{Step, Rule, stop, to, way, down}
 use Rattle.ordered.specs.Reading.{Found, word_in, root_row}
 use Rattle.ordered.specs.Change.{Take, number_at}
 use Rattle.ordered.specs.Grown.{linking as turned, chained}
@@ -107,10 +108,11 @@ module _ (rows : ℕ → Row) (n : ℕ) where
   unfolding entries numbers
   spelled_keys none s = refl
   spelled_keys (row i e l r) (a_row s u v) =
-      rw (words_append, map-append, spelled_keys l u, spelled_keys r v)
+      rw (words_append, map-append key_of_row, spelled_keys l u, spelled_keys r v)
       (ap (λ k. k ∷ (map key_of_row (numbers l) ++ map key_of_row (numbers r))) (sym (ap (λ x. x.entry.key) s.row_is)))
+  spelled_keys damaged s = elim s [ ]
 
-pub in_map : (key : ℕ → ℕ) {xs : List ℕ} {i : ℕ} → i ∈ xs → key i ∈ map key xs
+pub in_map : (key : ℕ → ℕ) {i : ℕ} {xs : List ℕ} → i ∈ xs → key i ∈ map key xs
 in_map key (Memᴰ.head e) = Memᴰ.head (ap key e)
 in_map key (Memᴰ.tail there) = Memᴰ.tail (in_map key there)
 
@@ -122,6 +124,7 @@ one_key key (x ∷ xs) (one_increasing a h) (Memᴰ.head e) (Memᴰ.tail there) 
 one_key key (x ∷ xs) (one_increasing a h) (Memᴰ.tail there) (Memᴰ.head e) same =
     absurd (omega (arith, above_less a (in_map key there), ap key e))
 one_key key (x ∷ xs) (one_increasing a h) (Memᴰ.tail there) (Memᴰ.tail there') same = one_key key xs h there there' same
+one_key key [] none_increasing there there' same = elim there [ ]
 
 -- writing entries changes no link
 pub taking_link : (ts : List Take) (table : List ℕ) (j : ℕ) (s : Side) → link (row_at (taking ts table) j) s ≡ link (row_at table j) s
@@ -167,6 +170,12 @@ leaf_row (row i e none none) leaf (a_row spelled_row u v) =
       alone = λ j apart. rw (ne_eqb j i apart);
       no_links = elim [ left ↦ ap (λ x. x.left) spelled_row.row_is | right ↦ ap (λ x. x.right) spelled_row.row_is ];
     }
+leaf_row none is_leaf s = elim is_leaf [ ]
+leaf_row (row i e none (row _ _ _ _)) is_leaf s = elim is_leaf [ ]
+leaf_row (row i e none damaged) is_leaf s = elim is_leaf [ ]
+leaf_row (row i e (row _ _ _ _) r) is_leaf s = elim is_leaf [ ]
+leaf_row (row i e damaged r) is_leaf s = elim is_leaf [ ]
+leaf_row damaged is_leaf s = elim is_leaf [ ]
 
 -- if the way of a word ends at it, the row at the end has that word
 pub end_is :
@@ -179,6 +188,7 @@ end_is {rows} x m (row i e l r) (a_row spelled_row u v) found = by_cases (eqb x 
     by_cases : (b : Bool) → eqb x e.key ≡ b → is_there {A = Found} (if b then such (record { entry = e; bits = m }) else no_such) ≡ true → ((rows i).entry.key ≡ x) × (i ∈ numbers (row i e l r))
     by_cases true same found = (ap (λ y. y.entry.key) spelled_row.row_is ∙ sym (eqb-true x e.key same), Memᴰ.head refl)
     by_cases false same found = absurd (false≢true found)
+end_is x m damaged s found = elim s [ ]
 
 pub hook_names :
     {rows : ℕ → Row} {n : ℕ} {ss : List Step} {u : Tree} {q : Step} → HookRow rows n ss u (such q)
@@ -206,6 +216,7 @@ pub root_in : (t : Tree) {rows : ℕ → Row} {n : ℕ} → Spelled rows n t →
 unfolding numbers
 root_in none s there = absurd (false≢true there)
 root_in (row i e l r) s there = Memᴰ.head refl
+root_in damaged s there = elim s [ ]
 
 -- other row numbers change neither the entries of a tree nor whether it is intact
 pub renamed_intact : (σ : ℕ → ℕ) (t : Tree) → intact (renamed σ t) ≡ intact t

@@ -1,14 +1,13 @@
 -- Demand 3 over histories: `rows_exact` gives each call's rows, and `demand2` the table that the calls before it left.
 use Prim.Native.Nat.{ℕ}
 use mathlib.Core.Path.{◌≡◌, refl, sym, subst, ◌∙◌}
-use mathlib.Core.List.{List}
 use lib.ListN.{length}
 use Rattle.pretree.specs.Table.{capacity}
 use Rattle.pretree.specs.Call.{after}
 use Rattle.demands.specs.Program.{Asked, State, outcome, end_state}
 use Rattle.demands.specs.Expected.{Kept, kept_at_end}
 use Rattle.demands.specs.RowsRead.{rows_over, moved_over, refused_over, Reports}
-use Rattle.demands.specs.Demand2.{Holding, HoldsKept, empty_state, empty_kept}
+use Rattle.demands.specs.Demand2.{HoldsKept, empty_state, empty_kept}
 use Rattle.demands.specs.History.{ReportsAs, History, HistoryFromEmpty, TwoHistories}
 use Rattle.demands.proofs.RowsRead.{rows_exact, rows_alike}
 use Rattle.demands.proofs.Demand2.{throughout, sequences_from_empty, empty_holds}

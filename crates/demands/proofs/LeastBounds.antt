@@ -10,10 +10,10 @@ use lib.Dec.{leb, eqb}
 use lib.Pow.{pow_pos, pow_mono, pow-lt, ones_lt}
 use lib.ListN.{length, replicate, length-append, length-replicate}
 use borrow.Author.Tests.{le-ltb, lt-leb, eqb-false, ne_eqb}
-use Rattle.ordered.specs.Such.{if◌then◌else◌, first_such, is_there}
+use Rattle.std.specs.Prelude.{if◌then◌else◌}
+use Rattle.ordered.specs.Such.{first_such, is_there}
 use Rattle.ordered.specs.Dictionary.{Entry, Increasing, none_increasing, one_increasing, lookup}
 use Rattle.ordered.specs.Source004.{◌∈◌}
-use Rattle.ordered.specs.Word.{right}
 use Rattle.ordered.specs.Tree.{tree_of}
 use Rattle.ordered.specs.Way.{way, rows, following}
 use Rattle.ordered.specs.Change.{erasing}

@@ -1,14 +1,13 @@
 -- The line program writes what the dictionary answers: each line by `answers_as` and `rows_exact`, on the table that the lines before it left.
-use Prim.Native.Nat.{ℕ, suc, ◌*◌}
+use Prim.Native.Nat.{ℕ, suc}
 use mathlib.Core.Path.{◌≡◌, refl, sym, ap, ap₂, subst, ◌∙◌}
 use mathlib.Core.Logic.{◌⊎◌, inl, inr}
 use mathlib.Core.Bool.{Bool, true, false, ◌||◌, false≢true}
-use mathlib.Core.List.{List, [], ◌∷◌, ◌++◌, append_assoc}
-use native.Mathlib.Omega.{arith}
+use mathlib.Core.List.{List, [], ◌∷◌, ◌++◌}
 use lib.Dec.{ltb, eqb}
 use lib.ListN.{length, take, drop}
 use lib.Seq.{take_at}
-use Rattle.ordered.specs.Such.{if◌then◌else◌}
+use Rattle.std.specs.Prelude.{if◌then◌else◌}
 use Rattle.ordered.specs.Dictionary.{words}
 use Rattle.ordered.proofs.OneTree.{words_length}
 use Rattle.pretree.specs.declared.Header.{Header}
@@ -30,12 +29,12 @@ use Rattle.lines.specs.declared.Line.TheVariants.{Read, Unread}
 use Rattle.lines.specs.declared.ReplyFields.{ReplyFields}
 use Rattle.lines.specs.Line.{parse}
 use Rattle.lines.specs.Render.{as_number, fields_of, reply_line, key_lines}
-use Rattle.lines.specs.Output.{State, start, Step, listed_in, listed_by, answer, written, written_for, lines_of, output}
-use Rattle.demands.specs.Program.{State as Between, outcome}
+use Rattle.lines.specs.Output.{State, start, listed_in, listed_by, answer, written, written_for, lines_of, output}
+use Rattle.demands.specs.Program.{State as Between}
 use Rattle.demands.specs.Expected.{Kept, only, expected, kept_after, changed}
 use Rattle.demands.specs.RowsRead.{rows_over, moved_over, refused_over, Reports}
 use Rattle.demands.specs.Demand2.{Keeps, HoldsKept}
-use Rattle.demands.specs.Lines.{Kind, makes, lists, works, kind_of, finds_no_set, no_set, fields_on_set, listed_on_set, fields_to, listed_to, kept_after_line, dictated, no_set_yet, OutputDictated}
+use Rattle.demands.specs.Lines.{Kind, makes, lists, works, kind_of, finds_no_set, fields_on_set, listed_on_set, fields_to, listed_to, kept_after_line, dictated, no_set_yet, OutputDictated}
 use Rattle.demands.proofs.Owned.{new_kept}
 use Rattle.demands.proofs.Demand2.{answers_as, empty_holds}
 use Rattle.demands.proofs.History.{reports_as}

@@ -8,7 +8,7 @@ use mathlib.Core.List.Memᴰ
 use native.Mathlib.Omega.{arith}
 use lib.Dec.{eqb}
 use borrow.Author.Tests.{eqb-true, eqb-false, eq-eqb, ne_eqb}
-use Rattle.ordered.specs.Such.{if◌then◌else◌}
+use Rattle.std.specs.Prelude.{if◌then◌else◌}
 use Rattle.ordered.specs.Word.{Side, left, right, other, bit_of}
 use Rattle.ordered.specs.Source004.{◌∈◌}
 use Rattle.ordered.specs.Tree.{Tree, intact}
@@ -58,7 +58,7 @@ module _ (rows : ℕ → Row) (n x : ℕ) where
       → ((s : Side) → often x (numbers (part_shown rows n m path i s)) ≡ names x (link (rows i) s) + sum naming (numbers (part_shown rows n m path i s)))
       → often x (numbers (unfolded rows n m path low i)) ≡ (if eqb x i then 1 else 0) + sum naming (numbers (unfolded rows n m path low i))
   unfolding numbers often
-  row_named m path low i o parts = rw (o.shows, often_append, sum_append) (omega (arith, parts left, parts right))
+  row_named m path low i o parts = rw (o.shows, often_append x, sum_append naming) (omega (arith, parts left, parts right))
 
   -- a row is in a tree as often as it is named there, and the root once more
   named :

@@ -67,7 +67,7 @@ numbers_met : (d path : ℕ) (t : Tree) → map (λ x. x.at) (met_in d path t) �
 unfolding met_in numbers
 numbers_met d path none = refl
 numbers_met d path (row i e l r) =
-    rw (map-append, numbers_met (suc d) (path * 2 + bit_of left) l, numbers_met (suc d) (path * 2 + bit_of right) r)
+    rw (map-append (λ (x : Met). x.at), numbers_met (suc d) (path * 2 + bit_of left) l, numbers_met (suc d) (path * 2 + bit_of right) r)
 numbers_met d path damaged = refl
 
 times_often : (i : ℕ) (xs : List Met) → times i xs ≡ often i (map (λ x. x.at) xs)

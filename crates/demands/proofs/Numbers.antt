@@ -10,7 +10,7 @@ use native.Mathlib.Omega.{arith}
 use lib.Dec.{ltb, eqb}
 use lib.ListN.{length, length-append}
 use borrow.Author.Tests.{ltb-true, ltb-false, eqb-true, eqb-false, lt-ltb, le-ltb, ne_eqb}
-use Rattle.ordered.specs.Such.{if◌then◌else◌}
+use Rattle.std.specs.Prelude.{if◌then◌else◌}
 use Rattle.ordered.specs.Dictionary.{Above, none_above, one_above, Increasing, none_increasing, one_increasing}
 use Rattle.ordered.specs.Tree.{Tree, none, row, damaged, entries, size, intact, unnumbered}
 use Rattle.ordered.proofs.Parts.{All, none_all, one_all}
@@ -135,7 +135,7 @@ module _ (σ : ℕ → ℕ) where
   numbers_renamed : (t : Tree) → numbers (renamed σ t) ≡ map σ (numbers t)
   unfolding numbers renamed
   numbers_renamed none = refl
-  numbers_renamed (row i e l r) = rw (numbers_renamed l, numbers_renamed r, map-append)
+  numbers_renamed (row i e l r) = rw (numbers_renamed l, numbers_renamed r, map-append σ)
   numbers_renamed damaged = refl
 
 pub renamed_same : (t : Tree) → renamed (λ i. i) t ≡ t

@@ -1,6 +1,6 @@
 -- A call writes only rows: "Words past the last whole row, or past that limit, are never changed." Every row that a table shows is in use
 -- ("0 to count−1"), also in a damaged table. `add` and `del` write only such rows, and `add` also writes its new row.
-use Prim.Native.Nat.{ℕ, zero, suc, ◌+◌, ◌*◌, ◌-◌, ◌≤◌, ◌<◌, pred}
+use Prim.Native.Nat.{ℕ, suc, ◌+◌, ◌*◌, ◌-◌, ◌≤◌, ◌<◌, pred}
 use mathlib.Core.Path.{◌≡◌, refl, ap, ◌∙◌}
 use mathlib.Core.Bool.{Bool, true, false, not, ◌&&◌, ◌||◌, false≢true}
 use mathlib.Core.List.{List, ◌++◌}
@@ -8,24 +8,24 @@ use native.Mathlib.Omega.{arith}
 use lib.Dec.{ltb, eqb}
 use lib.ListN.{length, get_or, drop, replicate, length-append, length-drop, length-replicate}
 use lib.Seq.{get_or-append-add, get_or-drop}
-use borrow.Author.Tests.{ltb-true, ltb-false, eqb-false, not-false}
-use Rattle.ordered.specs.Such.{if◌then◌else◌, Perhaps, no_such, such, only_if, anything, is_there}
-use Rattle.ordered.specs.Word.{Side, left, right, bit_of}
+use borrow.Author.Tests.{ltb-false, eqb-false, not-false}
+use Rattle.std.specs.Prelude.{if◌then◌else◌}
+use Rattle.ordered.specs.Such.{Perhaps, no_such, such, only_if, anything, is_there}
+use Rattle.ordered.specs.Word.{Side, left}
 use Rattle.ordered.specs.Dictionary.{Entry}
-use Rattle.ordered.specs.Tree.{Tree, none, row, damaged, part, listing}
+use Rattle.ordered.specs.Tree.{Tree, none, row, damaged, listing}
 use Rattle.ordered.specs.Way.{Step, Way, Rule, way, rows, joined, following, pushing, down, broken}
 use Rattle.ordered.specs.Reading.{word_in, root_row}
 use Rattle.ordered.specs.Change.{Take, pushed, raised, way_ends_at, number_at, entry_at, above_end, Adding, adding_by, adding, Erasing, erasing_by, erasing}
 use Rattle.ordered.proofs.Lists.{by_test}
 use Rattle.ordered.proofs.Parts.{All, none_all, one_all, all_append, IfSuch, last_such_one}
-use Rattle.ordered.proofs.Ways.{along}
 use Rattle.ordered.proofs.OneTree.{listing_length}
 use Rattle.pretree.specs.declared.Header.{Header}
 use Rattle.pretree.specs.declared.Row.{Row}
 use Rattle.pretree.specs.declared.Answer.TheVariants.{Done, WrongHeader, WordTooWide, Damage, Full, AlreadyThere, NoSuchWord}
 use Rattle.pretree.specs.declared.Reply.{Reply}
-use Rattle.pretree.specs.Table.{row_words, capacity, row_at, entry_of, link, leaf_row, with_entry, with_link, with_row, cleared}
-use Rattle.pretree.specs.Unfold.{judged, linked, unfolded, shown}
+use Rattle.pretree.specs.Table.{row_words, capacity, row_at, leaf_row, with_entry, with_link, with_row, cleared}
+use Rattle.pretree.specs.Unfold.{shown}
 use Rattle.pretree.specs.Reply.{wrong_width, wrong_header, too_wide, refused, answered}
 use Rattle.pretree.specs.Sound.{is_sound}
 use Rattle.pretree.specs.Whole.{new_table, list_buffer}
@@ -78,8 +78,8 @@ module _ (c : ℕ) where
   raised_in_use : (hole : Entry) {ss : List Step} → All (λ s. s.at < c) ss → Taken (raised ss hole)
   unfolding raised
   raised_in_use hole none_all = none_all
-  raised_in_use hole (one_all u none_all) = one_all u none_all
-  raised_in_use hole (one_all u (one_all v us)) = one_all u (raised_in_use hole (one_all v us))
+  raised_in_use hole (one_all {x} u none_all) = one_all u none_all
+  raised_in_use hole (one_all {x} u (one_all {x = y} v us)) = one_all u (raised_in_use hole (one_all {x = y} v us))
 
   joined_in_use : (w v : Way) → Passed c w → Passed c v → Hooked (above_end (joined w v))
   unfolding joined

@@ -1,7 +1,7 @@
 -- The bounds of demand 3 are reached at every width: the proofs for specs/Reached.antt, over the trees of its three sets.
 use Prim.Native.Nat.{ℕ, zero, suc, ◌+◌, ◌*◌, ◌-◌, ◌^◌, ◌≤◌, ◌<◌}
 use mathlib.Core.Path.{◌≡◌, refl, sym, ap, ◌∙◌}
-use mathlib.Core.Bool.{Bool, true, false, not}
+use mathlib.Core.Bool.{Bool, true, false}
 use mathlib.Core.List.{List, [], ◌∷◌, append-nil}
 use native.Mathlib.Nat.{add-mul, mul_assoc, one-mul, zero-mul, pow-succ'}
 use native.Mathlib.Omega.{arith}

@@ -10,7 +10,8 @@ use native.Mathlib.Omega.{arith}
 use native.Mathlib.Nat.{add-zero}
 use lib.Dec.{ltb, eqb}
 use lib.ListN.{length, drop, replicate}
-use Rattle.ordered.specs.Such.{if◌then◌else◌, Perhaps, no_such, such}
+use Rattle.std.specs.Prelude.{if◌then◌else◌}
+use Rattle.ordered.specs.Such.{Perhaps, no_such, such}
 use Rattle.ordered.specs.Source004.{Whether}
 use Rattle.ordered.specs.Tree.{listing}
 use Rattle.ordered.specs.Way.{Way, way, rows, broken, following}
@@ -20,7 +21,7 @@ use Rattle.ordered.specs.Change.{Adding, adding, way_ends_at, number_at, Erasing
 use Rattle.ordered.proofs.Answers.{adding_finds}
 use Rattle.pretree.specs.declared.Header.{Header}
 use Rattle.pretree.specs.declared.Answer.{Answer}
-use Rattle.pretree.specs.declared.Answer.TheVariants.{Done, Distance, WrongWidth, WrongHeader, WordTooWide, Damage, Full, ShortBuffer, AlreadyThere, NoSuchWord}
+use Rattle.pretree.specs.declared.Answer.TheVariants.{Done, Distance, WrongWidth, WrongHeader, WordTooWide, Damage, Full, ShortBuffer, NoSuchWord}
 use Rattle.pretree.specs.declared.Reply.{Reply}
 use Rattle.pretree.specs.Answer.{number_of}
 use Rattle.pretree.specs.Table.{row_words, capacity, with_entry}
@@ -34,7 +35,7 @@ use Rattle.pretree.specs.Del.{second_way, astray, shrunk, del_outcome}
 use Rattle.pretree.specs.declared.Call.{Call}
 use Rattle.pretree.specs.declared.Call.TheVariants.{New, Add, Del, Has, Next, Prev, Gap, First, Last, Audit}
 use Rattle.pretree.specs.Call.{After, after}
-use Rattle.demands.specs.Refusals.{SerialStored, Stored, ways_of, HasWrongWidth, HasWrongHeader, IsTooWide, Full as FullFor, Check, ◌when◌, header_checks, checks, FirstGiven}
+use Rattle.demands.specs.Refusals.{SerialStored, ways_of, HasWrongWidth, HasWrongHeader, IsTooWide, Full as FullFor, Check, ◌when◌, header_checks, checks, FirstGiven}
 use Rattle.demands.specs.Refusals.{Refusal, Untouched, SameFrom, number_after, Demand1}
 use Rattle.demands.specs.Damage.{DamageOn, Absent}
 use Rattle.demands.proofs.SoundIs.{sound_is}
@@ -54,11 +55,13 @@ first_only (c ∷ cs) m n (inl a) (inl b) = a.1 ∙ sym b.1
 first_only (c ∷ cs) m n (inl a) (inr b) = absurd (b.0 a.0)
 first_only (c ∷ cs) m n (inr a) (inl b) = absurd (a.0 b.0)
 first_only (c ∷ cs) m n (inr a) (inr b) = first_only cs m n a.1 b.1
+first_only [] m n none given = elim none [ ]
 
 none_first : (cs : List Check) (n : ℕ) → NoneGiven cs → FirstGiven cs n → ⊥
 unfolding FirstGiven
 none_first (c ∷ cs) n not_any (inl a) = not_any.0 a.0
 none_first (c ∷ cs) n not_any (inr a) = none_first cs n not_any.1 a.1
+none_first [] n not_any given = elim given [ ]
 
 -- The result of a call that makes these checks: a refusal by the first check whose condition holds, or an answer if none holds.
 -- `Seven` is what is claimed of an answer 7.

@@ -9,7 +9,8 @@ use native.Mathlib.Omega.{arith}
 use lib.Dec.{leb, eqb}
 use lib.ListN.{length}
 use borrow.Author.Tests.{leb-false, eqb-true, eqb-false, lt-ltb, le-ltb, eq-eqb}
-use Rattle.ordered.specs.Such.{if◌then◌else◌, Perhaps, no_such, such, last_such, anything, is_there}
+use Rattle.std.specs.Prelude.{if◌then◌else◌}
+use Rattle.ordered.specs.Such.{Perhaps, no_such, such, last_such, anything, is_there}
 use Rattle.ordered.specs.Word.{left}
 use Rattle.ordered.specs.Dictionary.{Entry, Increasing, delete, lookup}
 use Rattle.ordered.specs.Source004.{◌∈◌}

@@ -10,7 +10,8 @@ use native.Mathlib.Omega.{arith}
 use lib.Dec.{eqb}
 use lib.ListN.{length}
 use borrow.Author.Tests.{eqb-true, eq-eqb}
-use Rattle.ordered.specs.Such.{if◌then◌else◌, Perhaps, no_such, such, first_of, last_such, anything}
+use Rattle.std.specs.Prelude.{if◌then◌else◌}
+use Rattle.ordered.specs.Such.{Perhaps, no_such, such, first_of, last_such, anything}
 use Rattle.ordered.specs.Word.{Side, left, right, other}
 use Rattle.ordered.specs.Source004.{◌∈◌}
 use Rattle.ordered.specs.Dictionary.{Entry}
@@ -42,8 +43,8 @@ turned_often :
     (i : ℕ) (e : Entry) (s : Side) (l r g : Tree) (j : ℕ)
     → often j (numbers (turned i e s l r g)) ≡ (if eqb j i then 1 else 0) + (often j (numbers (part (other s) l r)) + often j (numbers g))
 unfolding numbers often
-turned_often i e left l r g j = rw often_append (omega arith)
-turned_often i e right l r g j = rw often_append (omega arith)
+turned_often i e left l r g j = rw (often_append j) (omega arith)
+turned_often i e right l r g j = rw (often_append j) (omega arith)
 
 module _ (i : ℕ) (e : Entry) (s : Side) (l r g : Tree) where
   abbrev aside : Tree

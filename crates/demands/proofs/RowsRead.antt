@@ -8,9 +8,10 @@ use native.Mathlib.Omega.{arith}
 use lib.Dec.{ltb, leb, eqb}
 use lib.ListN.{length}
 use borrow.Author.Tests.{leb-false}
-use Rattle.ordered.specs.Such.{if◌then◌else◌, Perhaps, no_such, such, first_such, is_there}
+use Rattle.std.specs.Prelude.{if◌then◌else◌}
+use Rattle.ordered.specs.Such.{Perhaps, no_such, such, first_such, is_there}
 use Rattle.ordered.specs.Dictionary.{Entry, words, lookup}
-use Rattle.ordered.specs.Tree.{Tree, intact, unnumbered, tree_of}
+use Rattle.ordered.specs.Tree.{Tree, intact, tree_of}
 use Rattle.ordered.specs.Way.{Way, rows, broken, way, following}
 use Rattle.ordered.specs.Reading.{Reading, rows_of, broken_in, has as has_over, next as next_over, prev as prev_over, first as first_over, last as last_over, gap as gap_over}
 use Rattle.ordered.specs.Change.{Adding, adding, Erasing, erasing}

@@ -9,7 +9,7 @@ use mathlib.Core.List.Memᴰ
 use native.Mathlib.Omega.{arith}
 use lib.Dec.{ltb, eqb}
 use borrow.Author.Tests.{eqb-true, lt-ltb, le-ltb, eq-eqb, ne_eqb}
-use Rattle.ordered.specs.Such.{if◌then◌else◌}
+use Rattle.std.specs.Prelude.{if◌then◌else◌}
 use Rattle.ordered.specs.Word.{Side, left, right, bit_of, side}
 use Rattle.ordered.specs.Source004.{◌∈◌}
 use Rattle.ordered.specs.Dictionary.{Entry}
@@ -87,7 +87,7 @@ module _ (rows : ℕ → Row) (j : ℕ) where
       (by_place m path low i (part_shown rows n (suc m) path i) o.no_damage.key_fits
       (λ s.
       along_link (λ x t. j ∈ numbers t → Reaches rows j m (path * 2 + bit_of s) low' t) (unfolded rows n m (path * 2 + bit_of s) low')
-      (λ nowhere. absurd (Memᴰ.not_nil nowhere))
+      (λ nowhere. absurd (Memᴰ.not-nil nowhere))
       (λ x. reaches n m (path * 2 + bit_of s) low' (suc x)) (link (rows i) s) (o.parts s))
       (rw o.shows at there))
 

@@ -5,11 +5,11 @@ use mathlib.Core.Bool.{Bool, true, false}
 use mathlib.Core.List.{List}
 use lib.Dec.{ltb, eqb}
 use borrow.Author.Tests.{ltb-true}
-use Rattle.ordered.specs.Such.{if◌then◌else◌}
+use Rattle.std.specs.Prelude.{if◌then◌else◌}
 use Rattle.ordered.specs.Word.{Side, left, right, bit_of}
 use Rattle.ordered.specs.Dictionary.{Entry}
 use Rattle.ordered.specs.Tree.{Tree, none, row, damaged, part}
-use Rattle.ordered.specs.Way.{Way, Rule, way}
+use Rattle.ordered.specs.Way.{Rule, way}
 use Rattle.ordered.proofs.Parts.{All, none_all, one_all}
 use Rattle.ordered.proofs.Ways.{along}
 use Rattle.pretree.specs.declared.Header.{Header}

@@ -9,7 +9,7 @@ use native.Mathlib.Omega.{arith}
 use Rattle.ordered.specs.Word.{Side, left, right, bit_of}
 use Rattle.ordered.specs.Source004.{◌∈◌}
 use Rattle.ordered.specs.Dictionary.{Entry}
-use Rattle.ordered.specs.Tree.{Tree, none, row, part, exists, intact}
+use Rattle.ordered.specs.Tree.{Tree, none, row, damaged, part, exists, intact}
 use Rattle.ordered.specs.Proper.{Proper}
 use Rattle.ordered.specs.Change.{number_at}
 use Rattle.pretree.specs.declared.Row.{Row}
@@ -87,6 +87,7 @@ module _ (rows : ℕ → Row) (n : ℕ) where
   part_shows : (f : ℕ → Tree) (t : Tree) → Part t → Spelled t → (exists t ≡ true → f (number_at t) ≡ t) → linked f (number_at t) ≡ t
   part_shows f none p s there = refl
   part_shows f (row i e l r) p s there = linked_row f i (p.not_root refl) ∙ there refl
+  part_shows f damaged p s there = elim s [ ]
 
   -- the table shows a proper tree that its rows spell
   pub spelled_shows :
@@ -97,6 +98,7 @@ module _ (rows : ℕ → Row) (n : ℕ) where
       shown_row rows n zero path low i
       (record { in_use = s.in_use; key_fits = rw (s.row_is, key) h.key_fits; links_end = rw (s.row_is, h.parts left, h.parts right) })
       ∙ rw (s.row_is, key, h.parts left, h.parts right)
+  spelled_shows zero path low damaged h s there = elim h [ ]
   spelled_shows (suc m) path low none h s there = absurd (false≢true there)
   spelled_shows (suc m) path low (row i e l r) h (a_row s u v) there =
       let below : (σ : Side) → part_shown rows n (suc m) path i σ ≡ part σ l r =
@@ -106,6 +108,7 @@ module _ (rows : ℕ → Row) (n : ℕ) where
       (spelled_shows m (path * 2 + bit_of σ) (suc e.key) (part σ l r) (h.parts σ) (part_spelled u v σ))) in
       shown_row rows n (suc m) path low i (record { in_use = s.in_use; key_fits = rw (s.row_is, key) h.key_fits; links_end = refl })
       ∙ rw (below left, below right, s.row_is, key)
+  spelled_shows (suc m) path low damaged h s there = elim h [ ]
 
 -- if the rows of a tree stay in use and do not change, they still spell it
 pub spelled_frame :
@@ -121,3 +124,4 @@ spelled_frame (row i e l r) (a_row s u v) same =
     })
     (spelled_frame l u (λ j there. same j (Memᴰ.tail (Memᴰ.append_left (numbers r) there))))
     (spelled_frame r v (λ j there. same j (Memᴰ.tail (Memᴰ.append_right (numbers l) there))))
+spelled_frame damaged s same = elim s [ ]

@@ -5,17 +5,18 @@ use mathlib.Core.Path.{◌≡◌, refl, sym, ap, ap₂, ◌∙◌, subst}
 use mathlib.Core.Bool.{Bool, true, false, ◌||◌, false≢true}
 use mathlib.Core.List.{List, [], ◌∷◌, ◌++◌}
 use native.Mathlib.Omega.{arith}
-use lib.Dec.{ltb, leb, eqb}
+use lib.Dec.{leb, eqb}
 use lib.ListN.{length}
 use borrow.Author.Tests.{leb-false, eqb-true, le-ltb, ne_eqb}
-use Rattle.ordered.specs.Such.{if◌then◌else◌, no_such, such, first_of, only_if, first_such, is_there}
+use Rattle.std.specs.Prelude.{if◌then◌else◌}
+use Rattle.ordered.specs.Such.{no_such, such, only_if, first_such, is_there}
 use Rattle.ordered.specs.Dictionary.{Entry, words, Increasing, one_increasing, insert, lookup}
 use Rattle.ordered.specs.Word.{left, right, bit_of}
 use Rattle.ordered.specs.Tree.{Tree, none, row, damaged, exists, entries, intact}
 use Rattle.ordered.specs.Proper.{Fitting, Proper}
-use Rattle.ordered.specs.Way.{Step, Way, way, rows, following}
+use Rattle.ordered.specs.Way.{Step, Way, way, following}
 use Rattle.ordered.specs.Reading.{Found, word_in, root_row}
-use Rattle.ordered.specs.Change.{Take, Adding, adding, adding_by, way_ends_at, number_at}
+use Rattle.ordered.specs.Change.{Take, adding, way_ends_at, number_at}
 use Rattle.ordered.specs.Grown.{chained, shifted, storing, tree_after_add}
 use Rattle.ordered.proofs.Lists.{by_order}
 use Rattle.ordered.proofs.Parts.{one_all, all_map, above_all, no_lookup}
@@ -23,14 +24,13 @@ use Rattle.ordered.proofs.OneTree.{root_fits, proper_intact}
 use Rattle.ordered.proofs.Ways.{chained_again}
 use Rattle.ordered.proofs.PushPop.{taken_by, chained_append}
 use Rattle.ordered.proofs.Grown.{grown_proper, grown_entries}
-use Rattle.ordered.proofs.Answers.{adding_finds}
 use Rattle.pretree.specs.declared.Header.{Header}
 use Rattle.pretree.specs.Table.{capacity, row_at, entry_of, with_entry, with_serial}
 use Rattle.pretree.specs.Unfold.{shown}
 use Rattle.pretree.specs.Sound.{Met, met_by, met, SoundRows, rows_met, Sound}
 use Rattle.pretree.specs.declared.Row.{Row}
-use Rattle.pretree.specs.Reply.{wrong_header, refused, answered}
-use Rattle.pretree.specs.declared.Answer.TheVariants.{WordTooWide, Full, AlreadyThere}
+use Rattle.pretree.specs.Reply.{wrong_header, refused}
+use Rattle.pretree.specs.declared.Answer.TheVariants.{WordTooWide, Full}
 use Rattle.pretree.specs.Answer.{number_of, key_of, serial_of}
 use Rattle.pretree.specs.Add.{entry_for, Outcome, taking}
 use Rattle.pretree.specs.declared.Call.TheVariants.{Add}

@@ -10,7 +10,7 @@ use native.Mathlib.Omega.{arith}
 use lib.Dec.{eqb}
 use lib.Pow.{pow_pos}
 use borrow.Author.Tests.{eqb-true, eq-eqb}
-use Rattle.ordered.specs.Such.{if◌then◌else◌}
+use Rattle.std.specs.Prelude.{if◌then◌else◌}
 use Rattle.ordered.specs.Tree.{Tree, none, size, intact}
 use Rattle.ordered.specs.Proper.{Proper}
 use Rattle.ordered.proofs.Parts.{All, none_all}

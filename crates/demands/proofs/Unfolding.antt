@@ -8,7 +8,7 @@ use mathlib.Core.List.Memᴰ
 use native.Mathlib.Omega.{arith}
 use lib.Dec.{ltb, leb, eqb}
 use borrow.Author.Tests.{ltb-true, leb-true, eqb-true, lt-ltb, le-leb, eq-eqb}
-use Rattle.ordered.specs.Such.{if◌then◌else◌}
+use Rattle.std.specs.Prelude.{if◌then◌else◌}
 use Rattle.ordered.specs.Word.{Side, left, right, bit_of}
 use Rattle.ordered.specs.Source004.{◌∈◌}
 use Rattle.ordered.specs.Tree.{Tree, none, row, damaged, part, entries, listing, size, intact}
@@ -186,7 +186,7 @@ module _ (rows : ℕ → Row) (n : ℕ) where
     unfolding numbers entries
     keys_of_numbers =
         every_part (λ t. listing t ≡ map (key rows) (numbers t)) refl
-        (λ i part in_use same. rw (words_append, map-append, same left, same right)) m path low i h
+        (λ i part in_use same. rw (words_append, map-append (key rows), same left, same right)) m path low i h
 
     -- its keys increase, so no row is in it twice
     pub no_row_twice : (j : ℕ) → often j (numbers (unfolded rows n m path low i)) ≤ 1

@@ -11,6 +11,7 @@ use Rattle.ordered.proofs.Parts.{AllWords, none_all, one_all}
 pub each_word : (P : ℕ → Type 0) {es : List Entry} {x : ℕ} → AllWords P es → x ∈ words es → P x
 each_word P (one_all h hs) (Memᴰ.head e) = rw e h
 each_word P (one_all h hs) (Memᴰ.tail there) = each_word P hs there
+each_word P none_all there = elim there [ ]
 
 pub all_words : {P : ℕ → Type 0} (es : List Entry) → ((x : ℕ) → x ∈ words es → P x) → AllWords P es
 all_words [] f = none_all

@@ -1,6 +1,6 @@
 -- There is a sound table for every set: its rows are in the order of the listing, "its key, then its left part, then its right part".
 use Prim.Native.Nat.{ℕ, zero, suc, ◌+◌, ◌*◌, ◌^◌, ◌≤◌, ◌<◌}
-use mathlib.Core.Path.{◌≡◌, refl, sym, ap, ◌∙◌}
+use mathlib.Core.Path.{◌≡◌, refl, sym, ap, subst, ◌∙◌}
 use mathlib.Core.Logic.{◌⊎◌, inl, inr}
 use mathlib.Core.Bool.{true, false≢true}
 use mathlib.Core.List.{List, [], ◌∷◌, ◌++◌, append_assoc}
@@ -8,13 +8,13 @@ use mathlib.Core.List.Memᴰ
 use native.Mathlib.Omega.{arith}
 use lib.Dec.{eqb-suc-zero}
 use lib.ListN.{length, length-append}
-use Rattle.ordered.specs.Such.{if◌then◌else◌}
+use Rattle.std.specs.Prelude.{if◌then◌else◌}
 use Rattle.ordered.specs.Word.{Side, left, right, bit_of}
 use Rattle.ordered.specs.Dictionary.{Entry, words, Increasing}
 use Rattle.ordered.specs.Source004.{◌∈◌}
-use Rattle.ordered.specs.Tree.{Tree, none, row, damaged, part, exists, entries, listing, size, intact, unnumbered, tree_of}
+use Rattle.ordered.specs.Tree.{Tree, none, row, damaged, part, exists, entries, size, intact, unnumbered, tree_of}
 use Rattle.ordered.specs.Proper.{Fitting, Proper}
-use Rattle.ordered.proofs.Parts.{All, none_all, all_append, each_of_all, AllWords, words_append}
+use Rattle.ordered.proofs.Parts.{All, none_all, all_append, each_of_all, AllWords}
 use Rattle.ordered.proofs.OneTree.{set_proper, set_entries, set_unnumbered, proper_intact, entries_length}
 use Rattle.pretree.specs.declared.Header.{Header}
 use Rattle.pretree.specs.declared.Row.{Row}
@@ -68,11 +68,13 @@ written_stands k none before after at = tt
 written_stands k (row i e l r) before after at =
     let own : List ℕ = row_as_words (row_of k e l r) in
     let lefts : List ℕ = written (place left k l) l in
-    let rights : List ℕ = written (place right k l) r in (
+    let rights : List ℕ = written (place right k l) r in
+    let same : before ++ (own ++ (lefts ++ (rights ++ after))) ≡ before ++ (own ++ ((lefts ++ rights) ++ after)) =
+    ap (λ words. before ++ (own ++ words)) (sym (append_assoc lefts rights after)) in (
       row_read k (row_of k e l r) before ((lefts ++ rights) ++ after) at,
-      rw (append_assoc lefts rights after, ← append_assoc before own (lefts ++ (rights ++ after)))
+      subst (λ words. Standing (row_at words) (place left k l) l) (append_assoc before own (lefts ++ (rights ++ after)) ∙ same)
           (written_stands (place left k l) l (before ++ own) (rights ++ after) (rw length-append (omega arith))),
-      rw (append_assoc lefts rights after, ← append_assoc before (own ++ lefts) (rights ++ after))
+      subst (λ words. Standing (row_at words) (place right k l) r) (append_assoc before (own ++ lefts) (rights ++ after) ∙ same)
           (written_stands (place right k l) r (before ++ (own ++ lefts)) after (rw length-append (omega (arith, written_length (place left k l) l)))),
     )
 written_stands k damaged before after at = tt
@@ -180,10 +182,12 @@ module _ (W n : ℕ) (S : List Entry) where
 word_in : (e : Entry) (S : List Entry) → e ∈ S → e.key ∈ words S
 word_in e (f ∷ S) (Memᴰ.head same) = Memᴰ.head (ap (λ x. x.key) same)
 word_in e (f ∷ S) (Memᴰ.tail there) = Memᴰ.tail (word_in e S there)
+word_in e [] there = elim there [ ]
 
 serial_in : (e : Entry) (S : List Entry) → e ∈ S → e.serial ∈ serials S
 serial_in e (f ∷ S) (Memᴰ.head same) = Memᴰ.head (ap (λ x. x.serial) same)
 serial_in e (f ∷ S) (Memᴰ.tail there) = Memᴰ.tail (serial_in e S there)
+serial_in e [] there = elim there [ ]
 
 pub every_set_has_rows : EverySetHasRows
 every_set_has_rows W S rest rising below =

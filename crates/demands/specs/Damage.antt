@@ -3,8 +3,8 @@
 -- Document 01: "Damage (4), for single-word calls, is exactly one of these: a link that the way follows is count or more; a row read has a key of
 -- 2^W or more, or not greater than that of the row it was reached from, or without the bits of the path to it; a row read at depth W has a link
 -- other than 0; the second way of `del` doesn't end at row count−1 with its key."
-use Rattle.std.specs.Prelude.{ℕ, zero, suc, ◌+◌, ◌*◌, ◌-◌, ◌/◌, ◌%◌, ◌^◌, ◌≤◌, pred, ◌≡◌, ◌⊎◌, List, [], ◌∷◌, leb, eqb}
-use Rattle.ordered.specs.Such.{if◌then◌else◌, Perhaps, no_such, such}
+use Rattle.std.specs.Prelude.{ℕ, zero, suc, ◌+◌, ◌*◌, ◌-◌, ◌/◌, ◌%◌, ◌^◌, ◌≤◌, pred, ◌≡◌, ◌⊎◌, List, [], ◌∷◌, leb, eqb, if◌then◌else◌}
+use Rattle.ordered.specs.Such.{Perhaps, no_such, such}
 use Rattle.ordered.specs.Word.{Side, left, right, side_of, bit_of}
 use Rattle.ordered.specs.Source004.{◌∈◌}
 use Rattle.ordered.specs.Dictionary.{Entry}

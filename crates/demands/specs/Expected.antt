@@ -1,8 +1,8 @@
 -- What the ordered dictionary answers to each call on a set S of words of width W: the answer's number, key and serial, and the set afterwards.
 -- Document 01: "The meaning of the operations is the ordered dictionary of source document 004; `new` (an empty set), `gap`, `audit`, `list`
 -- and the answers 7 and 8 are set here, over the same set." Answers 2 and 4 do not appear here: on a sound table they are never given.
-use Rattle.std.specs.Prelude.{ℕ, ◌^◌, ◌||◌, List, [], ◌∷◌, ◌++◌, ltb, leb, eqb, length, drop}
-use Rattle.ordered.specs.Such.{if◌then◌else◌, Perhaps, no_such, such, is_there}
+use Rattle.std.specs.Prelude.{ℕ, ◌^◌, ◌||◌, List, [], ◌∷◌, ◌++◌, ltb, leb, eqb, length, drop, if◌then◌else◌}
+use Rattle.ordered.specs.Such.{Perhaps, no_such, such, is_there}
 use Rattle.ordered.specs.Dictionary.{Entry, words, word_of, insert, delete, lookup, min, max, successor, predecessor}
 use Rattle.ordered.specs.Reading.{nearest}
 use Rattle.pretree.specs.Reply.{wrong_width}

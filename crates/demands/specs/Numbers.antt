@@ -1,6 +1,5 @@
 -- The row numbers of a tree: which rows are in it, how often, and the same tree with other numbers.
-use Rattle.std.specs.Prelude.{ℕ, ◌+◌, List, [], ◌∷◌, ◌++◌, eqb}
-use Rattle.ordered.specs.Such.{if◌then◌else◌}
+use Rattle.std.specs.Prelude.{ℕ, ◌+◌, List, [], ◌∷◌, ◌++◌, eqb, if◌then◌else◌}
 use Rattle.ordered.specs.Tree.{Tree, none, row, damaged}
 
 -- the rows of a tree, "in the order row, left part, right part"

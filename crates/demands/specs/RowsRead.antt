@@ -1,7 +1,7 @@
 -- Demand 3: "each call reports as rows read exactly those on the way", over the PreTree of the present words, with the bounds for every W.
 -- Document 01: "A row is read when its key is looked at; each row on a way counts once."
-use Rattle.std.specs.Prelude.{ℕ, pred, ◌+◌, ◌*◌, ◌^◌, ◌≤◌, ◌≡◌, Bool, false, not, ◌&&◌, ◌||◌, List, ltb, leb, eqb, length}
-use Rattle.ordered.specs.Such.{if◌then◌else◌, is_there}
+use Rattle.std.specs.Prelude.{ℕ, pred, ◌+◌, ◌*◌, ◌^◌, ◌≤◌, ◌≡◌, Bool, false, not, ◌&&◌, ◌||◌, List, ltb, leb, eqb, length, if◌then◌else◌}
+use Rattle.ordered.specs.Such.{is_there}
 use Rattle.ordered.specs.Dictionary.{words, Entry, lookup}
 use Rattle.ordered.specs.Tree.{tree_of}
 use Rattle.ordered.specs.Way.{rows, way, following}

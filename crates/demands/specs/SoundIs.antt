@@ -1,7 +1,6 @@
 -- What sound means. For every table three things are equivalent: document 01's definition, the test that `audit` makes, and that the table is
 -- the PreTree of some set. And a set has only one such tree.
-use Rattle.std.specs.Prelude.{ℕ, ◌*◌, ◌^◌, ◌<◌, ◌≡◌, ◌↔◌, ◌⊎◌, true, List, [], ◌∷◌, ◌++◌, ltb, length}
-use Rattle.ordered.specs.Such.{if◌then◌else◌}
+use Rattle.std.specs.Prelude.{ℕ, ◌*◌, ◌^◌, ◌<◌, ◌≡◌, ◌↔◌, ◌⊎◌, true, List, [], ◌∷◌, ◌++◌, ltb, length, if◌then◌else◌}
 use Rattle.ordered.specs.Dictionary.{Entry, words, Increasing}
 use Rattle.ordered.specs.Source004.{◌∈◌}
 use Rattle.ordered.specs.Tree.{entries, unnumbered, tree_of}

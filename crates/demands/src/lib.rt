@@ -1,1 +1,2 @@
 // Mathematics only: the promises are in specs/, their proofs in proofs/.
+#![tactic(auto)]
