@@ -6,6 +6,7 @@ ghost use Rattle.lines.specs.Answering.{Runs};
 ghost use Rattle.raw.specs.Fits.{Fits};
 ghost use Rattle.raw.specs.Outcome.{outcome, with_header, SetAfter};
 
+use crate::report::Output;
 use crate::{Buffer, State, Table, report};
 use lines::answer::CallResult;
 use pretree::{Call, Header};
@@ -14,6 +15,7 @@ use pretree::{Call, Header};
 pub(crate) const BLANK: u32 = 2863311530;
 
 pub(crate) fn run(
+    out: &mut Output,
     state: State,
     call: Call,
     table: &mut Table,
@@ -24,7 +26,7 @@ pub(crate) fn run(
     ensures fits { Fits result }
     ensures set_after { SetAfter call state table.old result table.new }
 {
-    let result = run_on_prefixes(call, state, table, copy, buffer);
+    let result = run_on_prefixes(out, call, state, table, copy, buffer);
     if state.keep {
         copy_back(copy, table, state.size);
         return state.with_header_of(result);
@@ -35,6 +37,7 @@ pub(crate) fn run(
 // Runs the call on the parts of the arrays that were set. Separate because the checker takes a part of a slice, but not of an array behind a
 // reference.
 fn run_on_prefixes(
+    out: &mut Output,
     call: Call,
     state: State,
     table: &[u32],
@@ -49,6 +52,7 @@ fn run_on_prefixes(
     let n = state.size;
     let m = state.room;
     run_and_report(
+        out,
         call,
         state,
         &table[0..n],
@@ -58,6 +62,7 @@ fn run_on_prefixes(
 }
 
 fn run_and_report(
+    out: &mut Output,
     call: Call,
     state: State,
     table: &[u32],
@@ -69,9 +74,9 @@ fn run_and_report(
         result copy.new buffer.new }
 {
     let result = run_on_copy(call, state.header, table, copy, buffer);
-    report::reply(state.lines, result.reply);
-    report::changed_words(table, copy);
-    report::changed_buffer(buffer);
+    report::reply(out, state.lines, result.reply);
+    report::changed_words(out, table, copy);
+    report::changed_buffer(out, buffer);
     result
 }
 

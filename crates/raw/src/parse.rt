@@ -5,7 +5,7 @@ ghost use Rattle.std.specs.Prelude.{◌≤◌, length};
 use numbers::{Number, read_number};
 
 // What a line sets. `Other`: the line is a call, or it is not read.
-#[derive(Drop)]
+#[derive(Clone, Copy)]
 pub enum Setting {
     Header,
     Table,
@@ -68,7 +68,7 @@ pub(crate) fn find_tab(line: &[u8], from: usize) -> usize
 }
 
 // How many numbers were read, and whether the whole line could be read.
-#[derive(Drop)]
+#[derive(Clone, Copy)]
 pub struct Numbers {
     pub count: usize,
     pub read: bool,

@@ -5,21 +5,28 @@ ghost use Rattle.raw.specs.Fits.{Fits};
 
 use crate::calls::{copy_words, fill_words};
 use crate::parse::{Numbers, Setting, read_numbers};
-use crate::report::unread;
+use crate::report::{Output, unread};
 use crate::{State, Table};
 use pretree::Header;
 
-pub(crate) fn apply_line(state: State, word: Setting, rest: &[u8], table: &mut Table) -> State
+pub(crate) fn apply_line(
+    out: &mut Output,
+    state: State,
+    word: Setting,
+    rest: &[u8],
+    table: &mut Table,
+) -> State
     requires { Fits state }
     ensures { Fits result }
 {
     let mut values = [0u32; 128];
     let found = read_numbers(rest, &mut values);
-    apply_numbers(state, word, found, &values, table)
+    apply_numbers(out, state, word, found, &values, table)
 }
 
 // Separate, as `clear_words` and `write_words` are, because the checker takes a part of a slice, but not of an array behind a reference.
 fn apply_numbers(
+    out: &mut Output,
     state: State,
     word: Setting,
     found: Numbers,
@@ -32,33 +39,33 @@ fn apply_numbers(
     let all = &values[..];
     let n = found.count;
     if found.read {
-        apply(state, word, &all[0..n], table)
+        apply(out, state, word, &all[0..n], table)
     } else {
-        unread(state)
+        unread(out, state)
     }
 }
 
-fn apply(state: State, word: Setting, values: &[u32], table: &mut Table) -> State
+fn apply(out: &mut Output, state: State, word: Setting, values: &[u32], table: &mut Table) -> State
     requires { Fits state }
     ensures { Fits result }
 {
     match word {
-        Setting::Header => set_header(state, values),
-        Setting::Table => set_table(state, values, table),
-        Setting::Word => set_words(state, values, table),
-        Setting::Buffer => set_buffer(state, values),
-        Setting::Keep => set_keep(state, true, values),
-        _ => set_keep(state, false, values),
+        Setting::Header => set_header(out, state, values),
+        Setting::Table => set_table(out, state, values, table),
+        Setting::Word => set_words(out, state, values, table),
+        Setting::Buffer => set_buffer(out, state, values),
+        Setting::Keep => set_keep(out, state, true, values),
+        _ => set_keep(out, state, false, values),
     }
 }
 
 // `header` W count
-fn set_header(mut state: State, values: &[u32]) -> State
+fn set_header(out: &mut Output, mut state: State, values: &[u32]) -> State
     requires { Fits state }
     ensures { Fits result }
 {
     if values.len() != 2 {
-        return unread(state);
+        return unread(out, state);
     }
     let set = Header {
         width: values[0],
@@ -69,16 +76,16 @@ fn set_header(mut state: State, values: &[u32]) -> State
 }
 
 // `table` n: n words, all 0
-fn set_table(mut state: State, values: &[u32], table: &mut Table) -> State
+fn set_table(out: &mut Output, mut state: State, values: &[u32], table: &mut Table) -> State
     requires { Fits state }
     ensures { Fits result }
 {
     if values.len() != 1 {
-        return unread(state);
+        return unread(out, state);
     }
     let n = wide(values[0]);
     if 262144 < n {
-        return unread(state);
+        return unread(out, state);
     }
     clear_words(table, n);
     state.size = n;
@@ -92,19 +99,19 @@ fn clear_words(table: &mut [u32], n: usize)
 }
 
 // `word` i v v ..: the table's words from word i on
-fn set_words(state: State, values: &[u32], table: &mut Table) -> State
+fn set_words(out: &mut Output, state: State, values: &[u32], table: &mut Table) -> State
     requires { Fits state }
     ensures { Fits result }
 {
     if values.len() < 2 {
-        return unread(state);
+        return unread(out, state);
     }
     let from = wide(values[0]);
     if state.size < from {
-        return unread(state);
+        return unread(out, state);
     }
     if state.size - from < values.len() - 1 {
-        return unread(state);
+        return unread(out, state);
     }
     write_words(table, from, &values[1..]);
     state
@@ -118,28 +125,28 @@ fn write_words(table: &mut [u32], from: usize, words: &[u32])
 }
 
 // `buffer` n: a buffer of n words
-fn set_buffer(mut state: State, values: &[u32]) -> State
+fn set_buffer(out: &mut Output, mut state: State, values: &[u32]) -> State
     requires { Fits state }
     ensures { Fits result }
 {
     if values.len() != 1 {
-        return unread(state);
+        return unread(out, state);
     }
     let n = wide(values[0]);
     if 65536 < n {
-        return unread(state);
+        return unread(out, state);
     }
     state.room = n;
     state
 }
 
 // `keep`, `fresh`
-fn set_keep(mut state: State, keep: bool, values: &[u32]) -> State
+fn set_keep(out: &mut Output, mut state: State, keep: bool, values: &[u32]) -> State
     requires { Fits state }
     ensures { Fits result }
 {
     if values.len() != 0 {
-        return unread(state);
+        return unread(out, state);
     }
     state.keep = keep;
     state
