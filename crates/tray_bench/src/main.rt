@@ -1,5 +1,8 @@
 // The tray program, which the script `tray` runs. Crate tray_lines has all of it.
+#![tactic(auto)]
 
-fn main() {
-    tray_lines::run();
+use std::process::ExitCode;
+
+fn main(rt: HostRuntime) -> ExitCode {
+    tray_lines::run(&rt)
 }

@@ -1,4 +1,4 @@
--- The proof files by what they serve. The proof of a function is in the folder of its source file, as parse/tab_at/Proof.antt.
+-- The proof files by what they serve. The proof of a function is in the folder of its source file, as parse/tab_at/Answers.antt.
 
 -- the promise `replies_are_the_standard's` of docs/PROMISES.md
 pub mod Promise

@@ -8,7 +8,7 @@ use crate::parse::Line;
 use tray::{Sample, Seat, Verdict};
 
 // The fields of a reply line after its line number.
-#[derive(Drop)]
+#[derive(Clone, Copy)]
 pub struct ReplyFields {
     pub answer: u32,
     pub repetition: bool,
@@ -16,20 +16,21 @@ pub struct ReplyFields {
 }
 
 // The tray after a sample, and the verdict.
-#[derive(Drop)]
+#[derive(Clone, Copy)]
 pub struct SampleResult {
     pub tray: [Seat; 64],
     pub verdict: Verdict,
 }
 
 // The tray after a line, and the fields of the reply to it.
-#[derive(Drop)]
+#[derive(Clone, Copy)]
 pub struct LineResult {
     pub tray: [Seat; 64],
     pub fields: ReplyFields,
 }
 
-// A sample for one seat. `tray::take_sample` does this to a lent tray. No program can lend one, so here the array is passed in and returned.
+// A sample for one seat. `tray::take_sample` does this to a lent tray. With the older kit no program could lend one, so here the array is passed in
+// and returned.
 fn sampled(tray: [Seat; 64], seat: usize, sample: Sample) -> SampleResult
     requires { length tray ≡ 64 }
     ensures { (length result.tray ≡ 64) × Sampled tray seat sample result.tray result.verdict }

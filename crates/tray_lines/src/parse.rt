@@ -6,12 +6,13 @@ ghost use Rattle.tray_lines.specs.Line.{before_tab, joined, line_of};
 use numbers::{Number, read_number};
 
 // What a line is read as.
-#[derive(Drop)]
+#[derive(Clone, Copy)]
 pub enum Line {
     Read(u32, u32),
     Unread,
 }
 
+#[tactic(auto, unfolding(crate::specs::Line::line_of))]
 pub(crate) fn read_line(line: &[u8]) -> Line
     ensures { result ≡ line_of line.now }
 {

@@ -9,8 +9,9 @@ pub(crate) fn put_reply(out: &mut [u8], at: usize, line: u64, fields: ReplyField
     requires { at + 32 ≤ length out.old }
     ensures { result ≤ at + 32 }
 {
-    let mut digits = [0u8; 20];
-    let n = io::decimal(line, &mut digits);
+    let mut buffer = itoa::Buffer::new();
+    let digits = buffer.format(line).as_bytes();
+    let n = digits.len();
     let mut i: usize = 0;
     while i < n {
         out[at + i] = digits[i];

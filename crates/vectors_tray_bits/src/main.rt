@@ -1,5 +1,8 @@
 // The tray program on words of one bit, with windows of 1,024 samples. tests/model/vectors.py makes input and output.
+#![tactic(auto)]
 
-fn main() {
-    tray_lines::run();
+use std::process::ExitCode;
+
+fn main(rt: HostRuntime) -> ExitCode {
+    tray_lines::run(&rt)
 }

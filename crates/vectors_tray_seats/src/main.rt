@@ -3,19 +3,37 @@
 // A line has eleven numbers, separated by tabs: the length of a tray whose records are all alike; a seat; a sample (width, word, repetition cutoff,
 // proportion cutoff); the record (last word, run, window's word, place, count). The reply has the answer number, both alarms and the seat's record
 // after the sample. tests/model/vectors.py makes input and output. There is no other input, so lines of another form are not handled.
+#![tactic(auto)]
 
-ghost use Rattle.std.specs.Prelude.{◌≡◌, length};
+ghost use Rattle.std.specs.Prelude.{◌≡◌, ◌≤◌, length};
 
-use libc::{STDIN_FILENO, STDOUT_FILENO};
+use std::io;
+use std::io::{Input, Read, Write};
 use tray::{Sample, Seat, Verdict};
 
-fn main() {
+fn main(rt: HostRuntime) -> io::Result<()> {
     let mut input = [0u8; 131072];
-    let n = io::read_full(STDIN_FILENO, &mut input);
-    reply_to_lines(&input[..n]);
+    let (n, read) = fill(&mut rt.reader(), &mut input);
+    reply_to_lines(&mut io::writer(&rt), &input[..n])?;
+    read
 }
 
-fn reply_to_lines(input: &[u8]) {
+// Reads until the buffer is full, the input ends or a read fails. Returns the number of bytes at the start of the buffer, and the failure.
+fn fill<R: Read>(reader: &mut R, space: &mut [u8]) -> (usize, io::Result<()>)
+    ensures { result.0 ≤ length space.new }
+{
+    let mut done: usize = 0;
+    while done < space.len() {
+        match reader.read(&mut space[done..]) {
+            Ok(0) => break,
+            Ok(n) => done += n,
+            Err(e) => return (done, Err(e)),
+        }
+    }
+    (done, Ok(()))
+}
+
+fn reply_to_lines<W: Write>(out: &mut W, input: &[u8]) -> io::Result<()> {
     let mut numbers = [0u32; 11];
     let mut field: usize = 0;
     let mut i: usize = 0;
@@ -23,7 +41,7 @@ fn reply_to_lines(input: &[u8]) {
         let byte = input[i];
         i += 1;
         if byte == b'\n' {
-            reply(numbers);
+            reply(out, numbers)?;
             field = 0;
             numbers[0] = 0;
         } else if byte == b'\t' {
@@ -33,6 +51,7 @@ fn reply_to_lines(input: &[u8]) {
             numbers[field] = with_digit(numbers[field], byte);
         }
     }
+    Ok(())
 }
 
 // The code of a digit is 48 more than the digit, and 48 is a multiple of 16.
@@ -41,7 +60,7 @@ fn with_digit(number: u32, digit: u8) -> u32 {
     (longer % 4294967296) as u32
 }
 
-fn reply(numbers: [u32; 11])
+fn reply<W: Write>(out: &mut W, numbers: [u32; 11]) -> io::Result<()>
     requires eleven { length numbers ≡ 11 }
 {
     let sample = Sample {
@@ -57,55 +76,60 @@ fn reply(numbers: [u32; 11])
         place: numbers[9],
         count: numbers[10],
     };
-    reply_at(numbers[0], numbers[1], sample, record);
+    reply_at(out, numbers[0], numbers[1], sample, record)
 }
 
-// As in `tray::take_sample`, a seat that is not in the tray has no record. The line's record is then printed unchanged.
-fn reply_at(length: u32, seat: u32, sample: Sample, record: Seat) {
+// As in `tray::take_sample`, a seat that is not in the tray has no record. The line's record is then written unchanged.
+fn reply_at<W: Write>(
+    out: &mut W,
+    length: u32,
+    seat: u32,
+    sample: Sample,
+    record: Seat,
+) -> io::Result<()> {
     if seat < length {
-        print_verdict(record.verdict(seat as usize, sample));
-        print_record(record.after(seat as usize, sample));
+        write_verdict(out, record.verdict(seat as usize, sample))?;
+        write_record(out, record.after(seat as usize, sample))
     } else {
-        print_verdict(tray::absent(sample));
-        print_record(record);
+        write_verdict(out, tray::absent(sample))?;
+        write_record(out, record)
     }
 }
 
-fn print_verdict(verdict: Verdict) {
-    io::print_decimal(STDOUT_FILENO, verdict.number() as u64);
+fn write_verdict<W: Write>(out: &mut W, verdict: Verdict) -> io::Result<()> {
+    write!(out, "{}", verdict.number())?;
     match verdict {
         Verdict::Counted {
             repetition,
             proportion,
         } => {
-            print_alarm(repetition);
-            print_alarm(proportion);
+            write_alarm(out, repetition)?;
+            write_alarm(out, proportion)
         }
         _ => {
-            print_alarm(false);
-            print_alarm(false);
+            write_alarm(out, false)?;
+            write_alarm(out, false)
         }
     }
 }
 
-fn print_alarm(alarm: bool) {
+fn write_alarm<W: Write>(out: &mut W, alarm: bool) -> io::Result<()> {
     if alarm {
-        print_number(1);
+        write_number(out, 1)
     } else {
-        print_number(0);
+        write_number(out, 0)
     }
 }
 
-fn print_record(record: Seat) {
-    print_number(record.last);
-    print_number(record.run);
-    print_number(record.word);
-    print_number(record.place);
-    print_number(record.count);
-    io::write_all(STDOUT_FILENO, b"\n");
+fn write_record<W: Write>(out: &mut W, record: Seat) -> io::Result<()> {
+    write_number(out, record.last)?;
+    write_number(out, record.run)?;
+    write_number(out, record.word)?;
+    write_number(out, record.place)?;
+    write_number(out, record.count)?;
+    out.write_all(b"\n")
 }
 
-fn print_number(number: u32) {
-    io::write_all(STDOUT_FILENO, b"\t");
-    io::print_decimal(STDOUT_FILENO, number as u64);
+fn write_number<W: Write>(out: &mut W, number: u32) -> io::Result<()> {
+    write!(out, "\t{number}")
 }
