@@ -2,7 +2,7 @@
 --
 -- The promise, `power_up` equals `reply_of`     power_up, refuse, judge/judge, count/count
 -- The verdicts                                 judge/verdicts, between, within, all_within; Lists
--- The loop: from the bits to a tally           count/read_all, with_half, after, place, raise; Counting, Shapes, Lists
+-- The loop: from the bits to a tally           count/read_all, with_half, after, raise; Counting, Shapes, Lists
 -- From the tally to the counts                 count/counts_in, runs_of, poker_counts, squares, weighed; Weighing, Lists
 -- The laws of docs/PROMISES.md                 Laws
 --

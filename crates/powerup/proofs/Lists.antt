@@ -113,7 +113,12 @@ module _ (l : List ℕ) (size : length l ≡ 14) (c m b k : ℕ) (hc : c < 2) (h
 pub met_raised : (l xs : List ℕ) (x p : ℕ) → x < length l → get_or (raised l x) p 0 + occurrences p xs ≡ get_or l p 0 + occurrences p (x ∷ xs)
 unfolding occurrences
 met_raised l xs x p h =
-    ⊎_elim (λ t. let q : x ≡ p = eqb-true x p t in rw (t, ← q, raised_same l x h) (omega arith))
+    ⊎_elim
+    (λ t.
+    let q : x ≡ p = eqb-true x p t in
+    let read : occurrences p (x ∷ xs) ≡ suc (occurrences p xs) = rw t in
+    let more : get_or (raised l x) p 0 ≡ suc (get_or l p 0) = rw (← q) (raised_same l x h) in
+    omega (arith, read, more))
     (λ f. rw f (omega (arith, raised_other l x p (λ q. eqb-false x p f (sym q))))) (either (eqb x p))
 
 -- l is the list of the numbers below n, in order; so each occurs once.

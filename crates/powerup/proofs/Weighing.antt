@@ -112,7 +112,12 @@ module _ (f : ℕ → ℕ) where
   unfolding dot occurrences
   weigh_one x xs [] = omega arith
   weigh_one x xs (v ∷ vs) =
-      ⊎_elim (λ t. let q : x ≡ v = eqb-true x v t in rw (t, eq-eqb v x (sym q), ← q) (omega (arith, weigh_one x xs vs)))
+      ⊎_elim
+      (λ t.
+      let q : x ≡ v = eqb-true x v t in
+      let first : occurrences v (x ∷ xs) ≡ suc (occurrences v xs) = rw t in
+      let second : occurrences x (v ∷ vs) ≡ suc (occurrences x vs) = rw (eq-eqb v x (sym q)) in
+      omega (arith, ap (λ (m : ℕ). m * f v) first, ap (λ (m : ℕ). m * f x) second, ap f q, weigh_one x xs vs))
       (λ n.
       let first : occurrences v (x ∷ xs) ≡ occurrences v xs = rw n in
       let second : occurrences x (v ∷ vs) ≡ occurrences x vs = rw (ne_eqb v x (λ q. eqb-false x v n (sym q))) in

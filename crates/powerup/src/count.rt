@@ -32,21 +32,21 @@ use crate::tables::{
 use crate::{Counts, RunCounts};
 
 // The run that the last bit read belongs to. `longest` is the length of the longest run before it.
-#[derive(Drop)]
+#[derive(Clone, Copy)]
 pub struct LastRun {
     pub bit: u32,
     pub length: u32,
     pub longest: u32,
 }
 
-#[derive(Drop)]
+#[derive(Clone, Copy)]
 pub struct Step {
     pub next: LastRun,
     // the length of the run that ended, or 0 if none did
     pub ended: u32,
 }
 
-#[derive(Drop)]
+#[derive(Clone, Copy)]
 pub struct Tally {
     // how often each pair occurred
     pub pairs: [u32; 32],

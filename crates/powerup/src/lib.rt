@@ -1,6 +1,8 @@
 // The four old power-up tests on 20,000 bits: monobit, poker, runs and long run. The two editions differ only in their limits.
 //
 // Document 02 §9 asks for them. specs/ quotes it and defines each count and each verdict.
+#![tactic(auto)]
+
 mod count;
 mod editions;
 mod judge;
@@ -10,14 +12,14 @@ ghost use Rattle.std.specs.Prelude.{◌≡◌};
 ghost use Rattle.powerup.specs.Reply.{number_of, refused, reply_of};
 
 // The number of runs of length 1, 2, 3, 4, 5, and 6 or more, and the length of the longest run.
-#[derive(Drop)]
+#[derive(Clone, Copy)]
 pub struct RunCounts {
     pub zeros: [u32; 6],
     pub ones: [u32; 6],
     pub longest: u32,
 }
 
-#[derive(Drop)]
+#[derive(Clone, Copy)]
 pub struct Counts {
     pub ones: u32,
     // how often each half-byte occurs
@@ -27,14 +29,14 @@ pub struct Counts {
     pub runs: RunCounts,
 }
 
-#[derive(Drop)]
+#[derive(Clone, Copy)]
 pub struct Interval {
     pub low: u32,
     pub high: u32,
 }
 
 // The limits of an edition. Ones must lie strictly inside their interval. The other intervals include their ends. A run of `long` or more bits fails.
-#[derive(Drop)]
+#[derive(Clone, Copy)]
 pub struct Limits {
     pub ones: Interval,
     pub poker: Interval,
@@ -43,7 +45,7 @@ pub struct Limits {
 }
 
 // `true` is a pass.
-#[derive(Drop)]
+#[derive(Clone, Copy)]
 pub struct Verdicts {
     pub monobit: bool,
     pub poker: bool,
@@ -51,14 +53,14 @@ pub struct Verdicts {
     pub long: bool,
 }
 
-#[derive(Drop)]
+#[derive(Clone, Copy)]
 pub enum Answer {
     Done,
     WrongLength,
     WrongEdition,
 }
 
-#[derive(Drop)]
+#[derive(Clone, Copy)]
 pub struct Reply {
     pub answer: Answer,
     pub counts: Counts,

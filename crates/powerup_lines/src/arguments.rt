@@ -1,21 +1,23 @@
 // The program's arguments, in any order.
 
+use std::rt::Env;
+
 // The edition that the arguments name, 1 or 2; 0 if they name neither.
-pub(crate) fn edition() -> u32 {
-    let first = digit(1);
-    if first != 0 { first } else { digit(2) }
+pub(crate) fn edition<R: Env>(rt: &R) -> u32 {
+    let first = digit(rt, 1);
+    if first != 0 { first } else { digit(rt, 2) }
 }
 
 // Whether --counts is among the arguments.
-pub(crate) fn counts() -> bool {
-    is_counts(1) || is_counts(2)
+pub(crate) fn counts<R: Env>(rt: &R) -> bool {
+    is_counts(rt, 1) || is_counts(rt, 2)
 }
 
-fn digit(i: usize) -> u32 {
+fn digit<R: Env>(rt: &R, i: usize) -> u32 {
     let mut space = [0u8; 16];
-    let n = os::arg(i, &mut space);
-    if n != 1 {
-        return 0;
+    match rt.arg(i, &mut space) {
+        Ok(1) => {}
+        _ => return 0,
     }
     match space[0] {
         b'1' => 1,
@@ -24,8 +26,10 @@ fn digit(i: usize) -> u32 {
     }
 }
 
-fn is_counts(i: usize) -> bool {
+fn is_counts<R: Env>(rt: &R, i: usize) -> bool {
     let mut space = [0u8; 16];
-    let n = os::arg(i, &mut space);
-    check::same(&space[..n], b"--counts")
+    match rt.arg(i, &mut space) {
+        Ok(n) => &space[..n] == b"--counts".as_slice(),
+        Err(_) => false,
+    }
 }

@@ -1,62 +1,102 @@
 // The program of the four power-up tests. Its arguments are EDITION, 1 or 2, and optionally --counts. It reads bytes from standard input and writes a
 // line for each block of 2,500 bytes to standard output.
-//
-// If every line was written and the edition is 1 or 2, it writes `ok` to descriptor 3. A program has no exit status, so the script that starts it
-// ends with 0 only if it finds that `ok`.
+#![tactic(auto)]
+
 mod arguments;
 mod line;
 
-use libc::{STDERR_FILENO, STDIN_FILENO, STDOUT_FILENO};
+ghost use Rattle.std.specs.Prelude.{◌≤◌, length};
 
-// After a block: more may follow, the input has ended, or the line was not written.
-#[derive(Drop)]
+use std::fmt::Display;
+use std::io;
+use std::io::{Eprint, Input, Print, Read, Write};
+use std::process::ExitCode;
+use std::rt::Env;
+
+// After a block: more may follow, or the input has ended.
+#[derive(Clone, Copy)]
 enum BlockResult {
     More,
     End,
-    Failed,
 }
 
-pub fn run() {
-    let edition = arguments::edition();
-    let counts = arguments::counts();
+// The status is a success if the edition is 1 or 2, no read failed and every line was written.
+pub fn run<R: Env + Input + Print + Eprint>(rt: &R) -> ExitCode {
+    let edition = arguments::edition(rt);
+    let counts = arguments::counts(rt);
     if edition == 0 {
-        io::write_all(STDERR_FILENO, b"powerup: the edition is neither 1 nor 2\n");
+        say(rt, "powerup: the edition is neither 1 nor 2");
     }
-    let written = blocks(edition, counts);
-    if written && edition != 0 {
-        io::write_all(3, b"ok\n");
+    let written = blocks(&mut rt.reader(), &mut io::writer(rt), edition, counts);
+    if let Err(e) = written {
+        say(rt, format_args!("powerup: {e}"));
+        return ExitCode::FAILURE;
+    }
+    if edition == 0 {
+        ExitCode::FAILURE
+    } else {
+        ExitCode::SUCCESS
     }
 }
 
-// Whether every line was written. A proved loop has to end, so this one stops at a number of blocks that no input reaches.
-fn blocks(edition: u32, counts: bool) -> bool {
+// The status shows the failure too, so it does not matter if the message is not written.
+fn say<R: Eprint, D: Display + Drop>(rt: &R, message: D) {
+    let _ = rt.eprintln(message);
+}
+
+// Answers every block. A proved loop has to end, so this one stops at a number of blocks that no input reaches.
+fn blocks<R: Read, W: Write>(
+    reader: &mut R,
+    writer: &mut W,
+    edition: u32,
+    counts: bool,
+) -> io::Result<()> {
     let mut number: u64 = 1;
     while number < u64::MAX {
-        match block(number, edition, counts) {
+        match block(reader, writer, number, edition, counts)? {
             BlockResult::More => {}
-            BlockResult::End => return true,
-            BlockResult::Failed => return false,
+            BlockResult::End => return Ok(()),
         }
         number += 1;
     }
-    true
+    Ok(())
 }
 
-fn block(number: u64, edition: u32, counts: bool) -> BlockResult {
+// If a read fails, the bytes before it are answered all the same, as the last block.
+fn block<R: Read, W: Write>(
+    reader: &mut R,
+    writer: &mut W,
+    number: u64,
+    edition: u32,
+    counts: bool,
+) -> io::Result<BlockResult> {
     let mut space = [0u8; 2500];
-    let got = io::read_full(STDIN_FILENO, &mut space);
-    if got == 0 {
-        return BlockResult::End;
+    let (got, read) = fill(reader, &mut space);
+    if got != 0 {
+        let reply = powerup::power_up(&space[..got], edition);
+        let mut out = [0u8; 1024];
+        let n = line::put_reply(&mut out, number, reply, counts);
+        writer.write_all(&out[..n])?;
     }
-    let reply = powerup::power_up(&space[..got], edition);
-    let mut out = [0u8; 1024];
-    let n = line::put_reply(&mut out, number, reply, counts);
-    if !io::write_all(STDOUT_FILENO, &out[..n]) {
-        return BlockResult::Failed;
-    }
+    read?;
     if got < 2500 {
-        BlockResult::End
+        Ok(BlockResult::End)
     } else {
-        BlockResult::More
+        Ok(BlockResult::More)
     }
+}
+
+// Reads until the buffer is full, the input ends or a read fails. Returns the number of bytes at the start of the buffer, and the failure.
+fn fill<R: Read>(reader: &mut R, space: &mut [u8]) -> (usize, io::Result<()>)
+    ensures { result.0 ≤ length space.new }
+{
+    let mut done: usize = 0;
+    while done < space.len() {
+        match reader.read(&mut space[done..]) {
+            Ok(0) => break,
+            Ok(n) => done += n,
+            Err(e) => return (done, Err(e)),
+        }
+    }
+    (done, Ok(()))
 }

@@ -116,9 +116,8 @@ fn put_number(out: &mut [u8], at: usize, n: u32) -> usize
 fn put_digits(out: &mut [u8], at: usize, n: u64) -> usize
     ensures { result ≤ length out.new }
 {
-    let mut text = [0u8; 20];
-    let k = io::decimal(n, &mut text);
-    put(out, at, &text[..k])
+    let mut buffer = itoa::Buffer::new();
+    put(out, at, buffer.format(n).as_bytes())
 }
 
 // Writes the text at a place and returns the place after it.

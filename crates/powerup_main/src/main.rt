@@ -1,5 +1,8 @@
 // The power-up tests as a program, started by ./powerup. The gate runs it on the second edition's blocks of tests/model/vectors.py.
+#![tactic(auto)]
 
-fn main() {
-    powerup_lines::run();
+use std::process::ExitCode;
+
+fn main(rt: HostRuntime) -> ExitCode {
+    powerup_lines::run(&rt)
 }

@@ -1,5 +1,8 @@
 // The program of powerup_main, which the gate runs here on the first edition's blocks of tests/model/vectors.py.
+#![tactic(auto)]
 
-fn main() {
-    powerup_lines::run();
+use std::process::ExitCode;
+
+fn main(rt: HostRuntime) -> ExitCode {
+    powerup_lines::run(&rt)
 }
