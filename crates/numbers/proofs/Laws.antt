@@ -7,17 +7,17 @@ use native.Mathlib.Omega.{arith}
 use borrow.Author.Tests.{le-leb, lt-leb, leb-true}
 use lib.Dec.{leb, eqb}
 use lib.ListN.{length, get_or}
-use Rattle.numbers.specs.declared.Number.TheVariants.{Of, Nothing}
+use Rattle.std.specs.Prelude.{Some, None}
 use Rattle.numbers.specs.Decimal.{is_digit, are_digits, spelt, leads_with_zero, is_number, read_number, SpellsNumber}
 
 pub digit_is : (d : ℕ) → 48 ≤ d → d ≤ 57 → is_digit d ≡ true
 digit_is d l h = simp (le-leb 48 d l, le-leb d 57 h)
 
-pub none_given : (ds : List ℕ) → length ds ≡ 0 → read_number ds ≡ Nothing
+pub none_given : (ds : List ℕ) → length ds ≡ 0 → read_number ds ≡ None
 unfolding read_number is_number
 none_given ds h = simp (lt-leb 1 (length ds) (omega arith))
 
-pub too_many : (ds : List ℕ) → 10 < length ds → read_number ds ≡ Nothing
+pub too_many : (ds : List ℕ) → 10 < length ds → read_number ds ≡ None
 unfolding read_number is_number
 too_many ds h = simp (le-leb 1 (length ds) (omega arith), lt-leb (length ds) 10 h)
 
@@ -32,20 +32,16 @@ digits_more (d ∷ []) h = absurd (omega arith)
 digits_more (d ∷ e ∷ ds) h = refl
 
 module _ (ds : List ℕ) (some : 1 ≤ length ds) (few : length ds ≤ 10) where
-  pub zero_leads : leads_with_zero ds ≡ true → read_number ds ≡ Nothing
+  pub zero_leads : leads_with_zero ds ≡ true → read_number ds ≡ None
   unfolding read_number is_number
   zero_leads z = simp (le-leb 1 (length ds) some, le-leb (length ds) 10 few, z)
 
   module _ (plain : leads_with_zero ds ≡ false) where
-    pub other_bytes : are_digits ds ≡ false → read_number ds ≡ Nothing
+    pub other_bytes : are_digits ds ≡ false → read_number ds ≡ None
     unfolding read_number is_number
     other_bytes f = simp (le-leb 1 (length ds) some, le-leb (length ds) 10 few, plain, f)
 
-    pub too_large : are_digits ds ≡ true → 4294967295 < spelt 0 ds → read_number ds ≡ Nothing
-    unfolding read_number is_number
-    too_large t l = simp (le-leb 1 (length ds) some, le-leb (length ds) 10 few, plain, t, lt-leb (spelt 0 ds) 4294967295 l)
-
-    pub number_is : are_digits ds ≡ true → spelt 0 ds ≤ 4294967295 → read_number ds ≡ Of (spelt 0 ds)
+    pub number_is : are_digits ds ≡ true → spelt 0 ds ≤ 4294967295 → read_number ds ≡ Some (spelt 0 ds)
     unfolding read_number is_number
     number_is t l = simp (le-leb 1 (length ds) some, le-leb (length ds) 10 few, plain, t, le-leb (spelt 0 ds) 4294967295 l)
 
@@ -75,14 +71,14 @@ number_parts ds e =
     }
 
 -- a text that reads as n spells n
-pub read_spells : (ds : List ℕ) {n : ℕ} → read_number ds ≡ Of n → SpellsNumber n ds
+pub read_spells : (ds : List ℕ) {n : ℕ} → read_number ds ≡ Some n → SpellsNumber n ds
 unfolding read_number
 read_spells ds {n} e = by_cases (is_number ds) refl
   where
     by_cases : (t : Bool) → is_number ds ≡ t → SpellsNumber n ds
     by_cases true t = let same : spelt 0 ds ≡ n = cc (rw t at e) in rw same at (number_parts ds t)
-    by_cases false f = let none : Nothing ≡ Of n = rw f at e in let z : ◌≡◌ {A = ℕ} 0 1 = cc in absurd (omega arith)
+    by_cases false f = let none : None ≡ Some n = rw f at e in let z : ◌≡◌ {A = ℕ} 0 1 = cc in absurd (omega arith)
 
 -- a text that spells n reads as n
-pub spells_read : (ds : List ℕ) {n : ℕ} → SpellsNumber n ds → read_number ds ≡ Of n
-spells_read ds {n} s = number_is ds s.some s.few s.plain s.digits (rw s.value s.most) ∙ ap Of s.value
+pub spells_read : (ds : List ℕ) {n : ℕ} → SpellsNumber n ds → read_number ds ≡ Some n
+spells_read ds {n} s = number_is ds s.some s.few s.plain s.digits (rw s.value s.most) ∙ ap Some s.value

@@ -5,12 +5,16 @@ use mathlib.Core.Bool.{true, false, ◌&&◌}
 use mathlib.Core.List.{List, []}
 use native.Mathlib.Nat.{pow-suc, pow-le-pow_right, zero-lt-suc}
 use native.Mathlib.Omega.{arith}
+use borrow.Author.Tests.{le-leb, lt-leb}
+use Rattle.std.proofs.Math.Nat.{lt_of_not-le}
+use Rattle.std.specs.Result.{OkIff, result_ok}
+use Rattle.std.specs.Prelude.{Result, Ok, Err}
 use native.Mathlib.Numerals.{add-one}
 use lib.ListN.{length, get_or, drop, drop_of_length-le}
 use lib.Seq.{drop-cons}
-use Rattle.numbers.specs.declared.Number.TheVariants.{Of, Nothing}
-use Rattle.numbers.specs.Decimal.{is_digit, are_digits, spelt, leads_with_zero, read_number}
-use Rattle.numbers.proofs.Laws.{digit_is, other_bytes, too_large, number_is}
+use Rattle.std.specs.Prelude.{Some, None, cond, leb}
+use Rattle.numbers.specs.Decimal.{is_digit, are_digits, spelt, leads_with_zero, is_number, read_number}
+use Rattle.numbers.proofs.Laws.{digit_is, other_bytes}
 
 -- the digit at i, and those after it
 module _ (ds : List ℕ) (i : ℕ) (within : i < length ds) where
@@ -26,36 +30,34 @@ module _ (ds : List ℕ) (i : ℕ) (within : i < length ds) where
 pub below_next : (v d i : ℕ) → v < 10 ^ i → d ≤ 57 → v * 10 + (d - 48) < 10 ^ suc i
 below_next v d i h l = rw (pow-suc 10 i) (omega arith)
 
--- the invariant: the first i of n digits spell v, and nothing so far says that the text is no number
-pub record ReadLoop (ds : List ℕ) (n v i : ℕ) : Type 0 where
-  pub whole : n ≡ length ds
+-- the invariant: the first i digits spell v, and nothing so far says that the text is no number
+pub record ReadLoop (ds : List ℕ) (v i : ℕ) : Type 0 where
   pub some : 1 ≤ length ds
   pub few : length ds ≤ 10
   pub plain : leads_with_zero ds ≡ false
-  pub within : i ≤ n
+  pub within : i ≤ length ds
   pub small : v < 10 ^ i
   pub value : spelt v (drop i ds) ≡ spelt 0 ds
   pub digits : are_digits (drop i ds) ≡ are_digits ds
 
-pub at_start : (ds : List ℕ) → 1 ≤ length ds → length ds ≤ 10 → leads_with_zero ds ≡ false → ReadLoop ds (length ds) 0 0
+pub at_start : (ds : List ℕ) → 1 ≤ length ds → length ds ≤ 10 → leads_with_zero ds ≡ false → ReadLoop ds 0 0
 at_start ds some few plain =
-    record { whole = refl; some = some; few = few; plain = plain; within = omega arith; small = omega arith; value = refl; digits = refl }
+    record { some = some; few = few; plain = plain; within = omega arith; small = omega arith; value = refl; digits = refl }
 
-module _ {ds : List ℕ} {n v i : ℕ} (s : ReadLoop ds n v i) where
-  module _ (more : i < n) where
+module _ {ds : List ℕ} {v i : ℕ} (s : ReadLoop ds v i) where
+  module _ (more : i < length ds) where
     -- at a byte that is no digit
-    pub at_other_byte : is_digit (get_or ds i 0) ≡ false → read_number ds ≡ Nothing
+    pub at_other_byte : is_digit (get_or ds i 0) ≡ false → read_number ds ≡ None
     at_other_byte f =
         let e : are_digits ds ≡ false = sym s.digits ∙ digits_on ds i (omega arith) ∙ rw f in
         other_bytes ds s.some s.few s.plain e
 
     -- at a digit
-    pub after_digit : 48 ≤ get_or ds i 0 → get_or ds i 0 ≤ 57 → ReadLoop ds n (v * 10 + (get_or ds i 0 - 48)) (i + 1)
+    pub after_digit : 48 ≤ get_or ds i 0 → get_or ds i 0 ≤ 57 → ReadLoop ds (v * 10 + (get_or ds i 0 - 48)) (i + 1)
     after_digit l h =
         let inside : i < length ds = omega arith in
         rw add-one
         (record {
-          whole = s.whole;
           some = s.some;
           few = s.few;
           plain = s.plain;
@@ -72,7 +74,7 @@ module _ {ds : List ℕ} {n v i : ℕ} (s : ReadLoop ds n v i) where
         omega arith
 
   -- after the last digit
-  module _ (end : n ≤ i) where
+  module _ (end : length ds ≤ i) where
     done : drop i ds ≡ []
     done = let h : length ds ≤ i = omega arith in drop_of_length-le ds h
 
@@ -84,8 +86,14 @@ module _ {ds : List ℕ} {n v i : ℕ} (s : ReadLoop ds n v i) where
     unfolding spelt
     all_spelt = rw done at (sym s.value)
 
-    pub ends_too_large : 4294967295 < v → read_number ds ≡ Nothing
-    ends_too_large h = too_large ds s.some s.few s.plain all_digits (rw all_spelt h)
+    -- what is left is whether the number is small enough
+    pub ends : read_number ds ≡ cond (leb v 4294967295) (Some v) None
+    unfolding read_number is_number
+    ends =
+        rw (all_spelt, all_digits)
+        (simp (le-leb 1 (length ds) s.some, le-leb (length ds) 10 s.few, s.plain))
 
-    pub ends_as_number : v ≤ 4294967295 → read_number ds ≡ Of v
-    ends_as_number h = rw all_spelt at (number_is ds s.some s.few s.plain all_digits (rw all_spelt h))
+-- what `u32::try_from` gives
+pub narrowed : {E : Type 0} (v : ℕ) (r : Result ℕ E) → OkIff r (v < 4294967296) v → result_ok r ≡ cond (leb v 4294967295) (Some v) None
+narrowed v (Ok x) (small, same) = simp (same, le-leb v 4294967295 (omega arith))
+narrowed v (Err e) large = simp (lt-leb v 4294967295 (lt_of_not-le (λ few. large (omega (arith, few)))))

@@ -1,8 +1,6 @@
 -- A decimal number in a text, from the bytes of the text.
 -- Document 01: "A number is 1 to 10 digits, no leading zero but for 0 itself, at most 4,294,967,295."
-use Rattle.std.specs.Prelude.{ℕ, ◌+◌, ◌*◌, ◌-◌, ◌≤◌, ◌≡◌, Bool, true, false, cond, not, ◌&&◌, List, [], ◌∷◌, leb, eqb, length}
-use Rattle.numbers.specs.declared.Number.{Number}
-use Rattle.numbers.specs.declared.Number.TheVariants.{Of, Nothing}
+use Rattle.std.specs.Prelude.{ℕ, ◌+◌, ◌*◌, ◌-◌, ◌≤◌, ◌≡◌, Bool, true, false, cond, not, ◌&&◌, List, [], ◌∷◌, leb, eqb, length, Option, Some, None}
 
 -- the digits `0` to `9`
 abbrev pub is_digit : ℕ → Bool
@@ -28,8 +26,8 @@ is_number ds =
     leb 1 (length ds) && (leb (length ds) 10 && (not (leads_with_zero ds) && (are_digits ds && leb (spelt 0 ds) 4294967295)))
 
 -- what a text reads as
-unfoldable pub read_number : List ℕ → Number
-read_number ds = cond (is_number ds) (Of (spelt 0 ds)) Nothing
+unfoldable pub read_number : List ℕ → Option ℕ
+read_number ds = cond (is_number ds) (Some (spelt 0 ds)) None
 
 -- The rule as a proposition, a field for each clause. A text reads as n exactly when it spells n: `read_spells` and `spells_read`, proofs/Laws.
 pub record SpellsNumber (n : ℕ) (ds : List ℕ) : Type 0 where
