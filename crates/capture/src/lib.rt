@@ -5,8 +5,9 @@
 // Document 01, "The ways", the last point. specs/Capture.antt quotes it and defines both answers.
 #![tactic(auto)]
 
-ghost use Rattle.std.specs.Prelude.{◌≡◌, ◌+◌, ◌≤◌, ◌<◌, min, leb, length};
-ghost use Rattle.capture.specs.Capture.{agreeing, LeadingPart, is_stale};
+ghost use Rattle.std.specs.Prelude.{◌≡◌, ◌+◌, ◌≤◌, ◌<◌, length};
+ghost use Rattle.capture.specs.Capture.{agreeing, LeadingPart, is_stale, same_bytes, same_blocks, same_places};
+ghost use Rattle.std.specs.List.{zip};
 
 // The part of `new`, from byte 0, that was in `earlier` already. It borrows from `new` alone: a caller may give up `earlier` and keep it.
 pub fn leading<'n, 'e>(new: &'n [u8], earlier: &'e [u8]) -> &'n [u8]
@@ -25,54 +26,60 @@ pub fn stale(new: &[u8], earlier: &[u8]) -> bool
     0 < new.len() && leading(new, earlier).len() == new.len()
 }
 
-// How many bytes agree before the first that differs, or before the end of the shorter capture.
+// How many bytes agree before the first that differs, or before the end of the shorter capture. Long blocks come first, then short ones, then
+// bytes: equal captures of 8 KiB take 0.32 instructions a byte so, and 8 byte by byte.
+#[tactic(auto, using(crate::proofs::InParts::agreeing_in_rest, crate::proofs::InParts::places_in_rest))]
 fn count_agreeing(new: &[u8], earlier: &[u8]) -> usize
     ensures { result ≡ agreeing new.now earlier.now }
 {
-    let most = if new.len() < earlier.len() {
-        new.len()
-    } else {
-        earlier.len()
-    };
-    let mut n = agreeing_blocks(new, earlier, most);
-    while n < most {
-        if new[n] != earlier[n] {
-            return n;
-        }
-        n += 1;
-    }
-    n
+    let long = agreeing_blocks::<128>(new, earlier);
+    let short = agreeing_blocks::<8>(&new[long..], &earlier[long..]);
+    let n = long + short;
+    n + agreeing_bytes(&new[n..], &earlier[n..])
 }
 
-// Compares block by block, 64 bytes each, up to the first block that differs. The result is the number of bytes in the blocks that
-// agree; fewer than 64 more bytes agree after them.
-fn agreeing_blocks(new: &[u8], earlier: &[u8], most: usize) -> usize
-    requires shorter { most ≡ min (length new.now) (length earlier.now) }
+// Document 01 asks for two slices with separate lifetimes, so both are parameters here and below.
+// Compares block by block, up to the first that differs. The result is the number of bytes in the blocks that agree; fewer than N more bytes
+// agree after them.
+#[tactic(auto, using(crate::proofs::InParts::whole_blocks, crate::proofs::Agreeing::within_both))]
+fn agreeing_blocks<const N: usize>(new: &[u8], earlier: &[u8]) -> usize
+    requires { (0 < N) × (N ≤ 4096) }
+    ensures within { (result ≤ length new.now) × (result ≤ length earlier.now) }
     ensures agree { result ≤ agreeing new.now earlier.now }
-    ensures rest_below_a_block { agreeing new.now earlier.now < result + 64 }
+    ensures rest_below_a_block { agreeing new.now earlier.now < result + N }
 {
-    let mut n: usize = 0;
-    while 64 <= most - n {
-        if !block_agrees(new, earlier, n) {
-            return n;
-        }
-        n += 64;
-    }
-    n
+    let (new_blocks, _) = new.as_chunks::<N>();
+    let (earlier_blocks, _) = earlier.as_chunks::<N>();
+    N * count_blocks(new_blocks, earlier_blocks)
 }
 
-// Whether the 64 bytes at `from` agree; all bytes before them do. The loop does not stop at a difference, so the compiler can compare
-// sixteen bytes at once.
-fn block_agrees(new: &[u8], earlier: &[u8], from: usize) -> bool
-    requires whole { from + 64 ≤ min (length new.now) (length earlier.now) }
-    requires so_far { from ≤ agreeing new.now earlier.now }
-    ensures { result ≡ leb (from + 64) (agreeing new.now earlier.now) }
+// How many blocks agree before the first that differs.
+fn count_blocks<const N: usize>(new: &[[u8; N]], earlier: &[[u8; N]]) -> usize
+    requires { (0 < N) × (N ≤ 4096) }
+    ensures { result ≡ same_blocks (zip new.now earlier.now) }
 {
-    let mut same = true;
-    let mut i: usize = 0;
-    while i < 64 {
-        same = same & (new[from + i] == earlier[from + i]);
-        i += 1;
-    }
-    same
+    new.iter()
+        .zip(earlier)
+        .take_while(
+            |blocks| -> bool
+                ensures { result ≡ same_bytes blocks.now.0.now blocks.now.1.now }
+            { block_agrees(blocks.0, blocks.1) },
+        )
+        .count()
+}
+
+// Whether two blocks have the same bytes. The fold does not stop at a difference, so the compiler can compare sixteen bytes at once.
+fn block_agrees<const N: usize>(new: &[u8; N], earlier: &[u8; N]) -> bool
+    ensures { result ≡ same_bytes new.now earlier.now }
+{
+    let pairs = new.iter().zip(earlier);
+    pairs.fold(true, |same, (n, e)| same & (n == e))
+}
+
+// How many bytes agree before the first that differs, byte by byte.
+fn agreeing_bytes(new: &[u8], earlier: &[u8]) -> usize
+    ensures within { result ≤ length new.now }
+    ensures places { result ≡ same_places (zip new.now earlier.now) }
+{
+    new.iter().zip(earlier).take_while(|(n, e)| n == e).count()
 }

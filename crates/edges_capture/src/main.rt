@@ -5,88 +5,81 @@
 use std::io;
 use std::io::Write;
 
+const ENDS: [(&str, &str); 9] = [
+    ("chip", "chip"),
+    ("chip", "chips"),
+    ("chips", "chip"),
+    ("chip", "ship"),
+    ("chip", "chop"),
+    ("chip", "chin"),
+    ("", "chip"),
+    ("chip", ""),
+    ("", ""),
+];
+
+// Captures are compared in blocks of 128 bytes, then of 8. These captures have 63 to 129 bytes: one has a byte more than the other, or they differ at
+// the first byte of a block, at the last, in the middle of a long block, or in the bytes after it.
+const BLOCKS: [(&str, &str); 9] = [
+    (
+        "0123456789abcdef0123456789abcdef0123456789abcdef0123456789abcde",
+        "0123456789abcdef0123456789abcdef0123456789abcdef0123456789abcde",
+    ),
+    (
+        "0123456789abcdef0123456789abcdef0123456789abcdef0123456789abcdef",
+        "0123456789abcdef0123456789abcdef0123456789abcdef0123456789abcdef",
+    ),
+    (
+        "0123456789abcdef0123456789abcdef0123456789abcdef0123456789abcdef",
+        "0123456789abcdef0123456789abcdef0123456789abcdef0123456789abcdef!",
+    ),
+    (
+        "0123456789abcdef0123456789abcdef0123456789abcdef0123456789abcdef!",
+        "0123456789abcdef0123456789abcdef0123456789abcdef0123456789abcdef",
+    ),
+    (
+        "0123456789abcdef0123456789abcdef0123456789abcdef0123456789abcdef",
+        "?123456789abcdef0123456789abcdef0123456789abcdef0123456789abcdef",
+    ),
+    (
+        "0123456789abcdef0123456789abcdef0123456789abcdef0123456789abcdef!",
+        "0123456789abcdef0123456789abcdef0123456789abcdef0123456789abcde?!",
+    ),
+    (
+        "0123456789abcdef0123456789abcdef0123456789abcdef0123456789abcdef0123456789abcdef0123456789abcdef0123456789abcdef0123456789abcdef!",
+        "0123456789abcdef0123456789abcdef0123456789abcdef0123456789abcdef?123456789abcdef0123456789abcdef0123456789abcdef0123456789abcdef!",
+    ),
+    (
+        "0123456789abcdef0123456789abcdef0123456789abcdef0123456789abcdef0123456789abcdef0123456789abcdef0123456789abcdef0123456789abcdef!",
+        "0123456789abcdef0123456789abcdef0123456789abcdef0123456789abcdef0123456789abcdef0123456789abcdef0123456789abcdef0123456789abcde?!",
+    ),
+    (
+        "0123456789abcdef0123456789abcdef0123456789abcdef0123456789abcdef0123456789abcdef0123456789abcdef0123456789abcdef0123456789abcdef!",
+        "0123456789abcdef0123456789abcdef0123456789abcdef0123456789abcdef0123456789abcdef0123456789abcdef0123456789abcdef0123456789abcdef?",
+    ),
+];
+
 fn main(rt: HostRuntime) -> io::Result<()> {
     let mut out = io::writer(&rt);
-    at_ends(&mut out)?;
-    at_blocks(&mut out)
+    compare_all(&mut out, ENDS)?;
+    compare_all(&mut out, BLOCKS)
 }
 
-fn at_ends<W: Write>(out: &mut W) -> io::Result<()> {
-    compare(out, b"chip", b"chip")?;
-    compare(out, b"chip", b"chips")?;
-    compare(out, b"chips", b"chip")?;
-    compare(out, b"chip", b"ship")?;
-    compare(out, b"chip", b"chop")?;
-    compare(out, b"chip", b"chin")?;
-    compare(out, b"", b"chip")?;
-    compare(out, b"chip", b"")?;
-    compare(out, b"", b"")
-}
-
-// Captures are compared in blocks of 64 bytes. These captures have one byte more or less than a block, or differ at the first byte of a
-// block, at the last, in the second block, or in the bytes after it.
-fn at_blocks<W: Write>(out: &mut W) -> io::Result<()> {
-    compare(
-        out,
-        b"0123456789abcdef0123456789abcdef0123456789abcdef0123456789abcde",
-        b"0123456789abcdef0123456789abcdef0123456789abcdef0123456789abcde",
-    )?;
-    compare(
-        out,
-        b"0123456789abcdef0123456789abcdef0123456789abcdef0123456789abcdef",
-        b"0123456789abcdef0123456789abcdef0123456789abcdef0123456789abcdef",
-    )?;
-    compare(
-        out,
-        b"0123456789abcdef0123456789abcdef0123456789abcdef0123456789abcdef",
-        b"0123456789abcdef0123456789abcdef0123456789abcdef0123456789abcdef!",
-    )?;
-    compare(
-        out,
-        b"0123456789abcdef0123456789abcdef0123456789abcdef0123456789abcdef!",
-        b"0123456789abcdef0123456789abcdef0123456789abcdef0123456789abcdef",
-    )?;
-    compare(
-        out,
-        b"0123456789abcdef0123456789abcdef0123456789abcdef0123456789abcdef",
-        b"?123456789abcdef0123456789abcdef0123456789abcdef0123456789abcdef",
-    )?;
-    compare(
-        out,
-        b"0123456789abcdef0123456789abcdef0123456789abcdef0123456789abcdef!",
-        b"0123456789abcdef0123456789abcdef0123456789abcdef0123456789abcde?!",
-    )?;
-    compare(
-        out,
-        b"0123456789abcdef0123456789abcdef0123456789abcdef0123456789abcdef0123456789abcdef0123456789abcdef0123456789abcdef0123456789abcdef!",
-        b"0123456789abcdef0123456789abcdef0123456789abcdef0123456789abcdef?123456789abcdef0123456789abcdef0123456789abcdef0123456789abcdef!",
-    )?;
-    compare(
-        out,
-        b"0123456789abcdef0123456789abcdef0123456789abcdef0123456789abcdef0123456789abcdef0123456789abcdef0123456789abcdef0123456789abcdef!",
-        b"0123456789abcdef0123456789abcdef0123456789abcdef0123456789abcdef0123456789abcdef0123456789abcdef0123456789abcdef0123456789abcde?!",
-    )?;
-    compare(
-        out,
-        b"0123456789abcdef0123456789abcdef0123456789abcdef0123456789abcdef0123456789abcdef0123456789abcdef0123456789abcdef0123456789abcdef!",
-        b"0123456789abcdef0123456789abcdef0123456789abcdef0123456789abcdef0123456789abcdef0123456789abcdef0123456789abcdef0123456789abcdef?",
-    )
-}
-
-fn compare<W: Write>(out: &mut W, new: &[u8], earlier: &[u8]) -> io::Result<()> {
-    write_bytes(out, new)?;
-    write_bytes(out, earlier)?;
-    write_bytes(out, capture::leading(new, earlier))?;
-    if capture::stale(new, earlier) {
-        out.write_all(b"stale\n")
-    } else {
-        out.write_all(b"fresh\n")
+fn compare_all<W: Write>(out: &mut W, pairs: [(&str, &str); 9]) -> io::Result<()> {
+    for (new, earlier) in pairs {
+        compare(out, new, earlier)?;
     }
+    Ok(())
 }
 
 // The brackets show an empty capture too.
-fn write_bytes<W: Write>(out: &mut W, bytes: &[u8]) -> io::Result<()> {
-    out.write_all(b"[")?;
-    out.write_all(bytes)?;
-    out.write_all(b"] ")
+fn compare<W: Write>(out: &mut W, new: &str, earlier: &str) -> io::Result<()> {
+    let (new_bytes, earlier_bytes) = (new.as_bytes(), earlier.as_bytes());
+    let word = if capture::stale(new_bytes, earlier_bytes) {
+        "stale"
+    } else {
+        "fresh"
+    };
+    write!(out, "[{new}] [{earlier}] [")?;
+    out.write_all(capture::leading(new_bytes, earlier_bytes))?;
+    writeln!(out, "] {word}")
 }
