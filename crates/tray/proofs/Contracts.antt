@@ -8,7 +8,7 @@ use denote.Ref.{MutBor}
 use denote.Triple.Clauses.{at_exit}
 use Rattle.tray.specs.declared.Seat.{Seat}
 use Rattle.tray.specs.declared.Sample.{Sample}
-use Rattle.tray.specs.declared.Verdict.{Verdict}
+use Rattle.tray.specs.Verdict.{Verdict}
 use Rattle.tray.specs.Tray.{Sampled}
 use Rattle.tray.specs.contracts.take_sample as take_sample_clauses
 use Rattle.tray.proofs.take_sample as take_sample_fn

@@ -5,7 +5,8 @@ use mathlib.Core.Path.{◌≡◌, refl}
 use mathlib.Core.Bool.{true, false}
 use Rattle.tray.specs.declared.Seat.{Seat}
 use Rattle.tray.specs.declared.Sample.{Sample}
-use Rattle.tray.specs.declared.Verdict.TheVariants.{Counted, Damage}
+use Rattle.std.specs.Prelude.{Ok, Err}
+use Rattle.tray.specs.declared.Refusal.TheVariants.{Damage}
 use Rattle.tray.specs.Seat.{fresh, top, window, repeats, run_with, repetition_alarm, is_window_word, window_word, count_with, proportion_alarm, counted, wrong_width, too_wide, low_cutoff, damaged, verdict, after}
 
 -- a record with the last word 7, in a window of the word 7
@@ -17,17 +18,17 @@ abbrev sevens : Sample
 sevens = record { width = 8; word = 7; repetition = 2; proportion = 2 }
 
 -- "whose place is the window's length or more"
-pub place_is_the_length : verdict true (seat 1 512 1) sevens ≡ Damage
+pub place_is_the_length : verdict true (seat 1 512 1) sevens ≡ Err Damage
 unfolding verdict wrong_width too_wide low_cutoff damaged window
 place_is_the_length = refl
 
 -- "or whose count is above its place"
-pub count_above_place : verdict true (seat 1 3 4) sevens ≡ Damage
+pub count_above_place : verdict true (seat 1 3 4) sevens ≡ Err Damage
 unfolding verdict wrong_width too_wide low_cutoff damaged window
 count_above_place = refl
 
 -- The last sample of a window alarms, and then the window is cleared.
-pub last_of_a_window : verdict true (seat 1 511 5) sevens ≡ Counted true true
+pub last_of_a_window : verdict true (seat 1 511 5) sevens ≡ Ok (record { repetition = true; proportion = true })
 unfolding verdict wrong_width too_wide low_cutoff damaged window repetition_alarm repeats run_with proportion_alarm is_window_word count_with
 last_of_a_window = refl
 
@@ -36,7 +37,7 @@ unfolding after verdict wrong_width too_wide low_cutoff damaged window counted r
 window_cleared = refl
 
 -- A run at its top alarms at the highest cutoff, and stays there.
-pub run_at_its_top : verdict true (seat top 1 1) (record { width = 8; word = 7; repetition = top; proportion = 3 }) ≡ Counted true false
+pub run_at_its_top : verdict true (seat top 1 1) (record { width = 8; word = 7; repetition = top; proportion = 3 }) ≡ Ok (record { repetition = true; proportion = false })
 unfolding verdict wrong_width too_wide low_cutoff damaged window repetition_alarm repeats run_with proportion_alarm is_window_word count_with
 run_at_its_top = refl
 

@@ -7,14 +7,14 @@ use mathlib.Core.List.{List, [], ◌∷◌, ◌++◌}
 use native.Mathlib.Omega.{arith}
 use native.Mathlib.Nat.{mod-lt}
 use lib.Dec.{leb, eqb}
+use Rattle.std.proofs.lemmas.Bool.Decides.{nat_tests}
 use lib.ListN.{length, get_or}
 use lib.Seq.{drop-nil}
-use borrow.Author.Tests.{lt-ltb, le-ltb, le-leb, lt-leb, leb-true, leb-false, eq-eqb, ne_eqb, eqb-true, eqb-false}
 use Rattle.tray.specs.declared.Seat.{Seat}
 use Rattle.tray.specs.Seat.{fresh, top, repeats, run_with, repetition_alarm, is_window_word, window_word, count_with, proportion_alarm, counted, damaged}
 use Rattle.tray.specs.Standard.{ending_run, repetition_test, present_window, occurrences, proportion_test}
 use Rattle.tray.proofs.Checks.{run_decides}
-use Rattle.tray.proofs.Windows.{eqb_same, eqb_sym, length_snoc, ending_run_next, occurrences_snoc, occurrences_at_most, window_length, window_goes_on, window_ends}
+use Rattle.tray.proofs.Windows.{length_snoc, ending_run_next, occurrences_snoc, occurrences_at_most, window_length, window_goes_on, window_ends}
 
 -- The record's last three fields fit a window that has had the samples w.
 pub record InWindow (w : List ℕ) (r : Seat) : Type 0 where
@@ -49,47 +49,32 @@ record OneMore (w : List ℕ) (r : Seat) (k : ℕ) : Type 0 where
 
 one_more : (w : List ℕ) (r : Seat) (k : ℕ) → InWindow w r → OneMore w r k
 unfolding is_window_word window_word count_with occurrences
-one_more [] r k is =
-    let none : eqb r.place 0 ≡ true = eq-eqb r.place 0 is.place in
-    record {
-      lifts = rw (none, eqb_same k);
-      place = ap suc is.place;
-      word = rw none;
-      count = rw (none, eqb_same k, is.count);
-    }
+one_more [] r k is = record {
+  lifts = grind (arith, nat_tests);
+  place = ap suc is.place;
+  word = grind (arith, nat_tests);
+  count = grind (arith, nat_tests);
+}
 one_more (x ∷ w) r k is =
-    let some : eqb r.place 0 ≡ false = ne_eqb r.place 0 (λ e. omega (arith, is.place)) in
     let word : r.word ≡ x = is.word (omega arith) in
     record {
-      lifts = rw (some, word);
+      lifts = grind (arith, nat_tests);
       place = rw is.place (sym (length_snoc (x ∷ w) k));
-      word = rw (some, word);
-      count = rw (some, word, is.count, eqb_sym x k) (sym (occurrences_snoc x (x ∷ w) k));
+      word = grind (arith, nat_tests);
+      count = grind (arith, nat_tests, occurrences_snoc x (x ∷ w) k);
     }
 
 leb_min : (c e : ℕ) → c ≤ top → leb c (min e top) ≡ leb c e
-leb_min c e fits = by_cases (leb c e) refl
-  where
-    by_cases : (t : Bool) → leb c e ≡ t → leb c (min e top) ≡ leb c e
-    by_cases true t = let reached : c ≤ min e top = omega (arith, leb-true c e t) in rw (t, le-leb c (min e top) reached)
-    by_cases false t = let short : min e top < c = omega (arith, leb-false c e t) in rw (t, lt-leb c (min e top) short)
+leb_min c e fits = grind (arith, nat_tests)
 
 run_positive : (r : Seat) (k : ℕ) → 0 < run_with r k
 unfolding run_with
-run_positive r k = by_cases (repeats r k) refl
-  where
-    by_cases : (t : Bool) → repeats r k ≡ t → 0 < cond (repeats r k) (min (suc r.run) top) 1
-    by_cases true t = rw t (omega arith)
-    by_cases false t = rw t (omega arith)
+run_positive r k = grind arith
 
 -- Last word and run are the same whether the window ends or not.
 counted_run : (size : ℕ) (r : Seat) (k : ℕ) → ((counted size r k).last ≡ k) × ((counted size r k).run ≡ run_with r k)
 unfolding counted
-counted_run size r k = by_cases (eqb (suc r.place) size) refl
-  where
-    by_cases : (t : Bool) → eqb (suc r.place) size ≡ t → ((counted size r k).last ≡ k) × ((counted size r k).run ≡ run_with r k)
-    by_cases true t = rw t (refl, refl)
-    by_cases false t = rw t (refl, refl)
+counted_run size r k = grind arith
 
 module _ (size : ℕ) (some_size : 0 < size) (past : List ℕ) (r : Seat) (follows : Follows size past r) where
   -- It is not damaged.
@@ -97,18 +82,12 @@ module _ (size : ℕ) (some_size : 0 < size) (past : List ℕ) (r : Seat) (follo
   unfolding damaged
   is_undamaged =
       let w : List ℕ = present_window size past in
-      let within : r.place < size = omega (arith, follows.window.place, window_length size past, mod-lt (length past) some_size) in
-      let few : r.count ≤ r.place = omega (arith, follows.window.place, follows.window.count, occurrences_at_most (get_or w 0 0) w) in
-      rw (lt-leb size r.place within, le-ltb r.place r.count few)
+      grind (arith, nat_tests, window_length size past, mod-lt (length past) some_size, occurrences_at_most (get_or w 0 0) w)
 
   module _ (k : ℕ) where
     run_is : run_with r k ≡ min (ending_run (past ++ k ∷ [])) top
     unfolding run_with
-    run_is = by_cases (repeats r k) refl
-      where
-        by_cases : (t : Bool) → repeats r k ≡ t → cond (repeats r k) (min (suc r.run) top) 1 ≡ min (ending_run (past ++ k ∷ [])) top
-        by_cases true t = rw (follows.next k, t) (omega (arith, follows.run))
-        by_cases false t = rw (follows.next k, t)
+    run_is = grind (arith, follows.next k)
 
     -- Its alarms are the standard's.
     pub repetition_is : (cutoff : ℕ) → cutoff ≤ top → repetition_alarm r cutoff k ≡ repetition_test cutoff past k
@@ -122,9 +101,7 @@ module _ (size : ℕ) (some_size : 0 < size) (past : List ℕ) (r : Seat) (follo
     -- With one more sample counted it still follows.
     repeats_is : (j : ℕ) → repeats (counted size r k) j ≡ eqb k j
     unfolding repeats
-    repeats_is j =
-        let some : 0 < (counted size r k).run = rw (counted_run size r k).1 (run_positive r k) in
-        rw (lt-ltb 0 (counted size r k).run some, (counted_run size r k).0)
+    repeats_is j = grind (arith, nat_tests, counted_run size r k, run_positive r k)
 
     in_window : InWindow (present_window size (past ++ k ∷ [])) (counted size r k)
     unfolding counted occurrences
@@ -132,12 +109,11 @@ module _ (size : ℕ) (some_size : 0 < size) (past : List ℕ) (r : Seat) (follo
       where
         by_cases : (t : Bool) → eqb (suc r.place) size ≡ t → InWindow (present_window size (past ++ k ∷ [])) (counted size r k)
         by_cases true t =
-            let full : suc (length past % size) ≡ size = omega (arith, eqb-true (suc r.place) size t, follows.window.place, window_length size past) in
+            let full : suc (length past % size) ≡ size = grind (arith, nat_tests, follows.window.place, window_length size past) in
             rw (t, window_ends size past k full) (record { place = refl; word = λ h. omega arith; count = refl })
         by_cases false t =
             let more = one_more (present_window size past) r k follows.window in
-            let unequal : suc r.place ≡ size → ⊥ = eqb-false (suc r.place) size t in
-            let on : suc (length past % size) < size = omega (arith, unequal, follows.window.place, window_length size past, mod-lt (length past) some_size) in
+            let on : suc (length past % size) < size = grind (arith, nat_tests, follows.window.place, window_length size past, mod-lt (length past) some_size) in
             rw (t, window_goes_on size past k on) (record { place = more.place; word = λ h. more.word; count = more.count })
 
     pub follows_on : Follows size (past ++ k ∷ []) (counted size r k)

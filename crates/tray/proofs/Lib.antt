@@ -12,8 +12,6 @@ pub mod Trays
 pub mod Contracts
 -- Used by the proofs of the functions: what a counted sample has passed (`verdict`, `after`, `repetition_alarm`).
 mod Checks
--- a law of the tags that a verdict has
-pub mod Tags
 -- Tests by computation, on records that no samples leave.
 pub mod Examples
 

@@ -1,17 +1,15 @@
 -- The counts of specs/Standard are those of the standard's loops, and its windows follow one another without gap or overlap. Assumes nothing.
-use Prim.Native.Nat.{ℕ, suc, ◌+◌, ◌-◌, ◌%◌, ◌≤◌, ◌<◌}
-use mathlib.Core.Path.{◌≡◌, refl, sym, ap, ◌∙◌}
-use mathlib.Core.Bool.{Bool, true, false, cond}
+use Prim.Native.Nat.{ℕ, ◌+◌, ◌-◌, ◌%◌, ◌≤◌, ◌<◌}
+use mathlib.Core.Path.{◌≡◌, refl}
 use mathlib.Core.List.{List, [], ◌∷◌, ◌++◌, append_assoc, append-nil}
 use native.Mathlib.Omega.{arith}
 use native.Mathlib.Nat.{mod-le, mod-eq_of_lt, add-mod_left, sub_self}
-use lib.Dec.{eqb}
 use lib.ListN.{length, length-append}
 use lib.Seq.{drop-append-add}
-use borrow.Author.Tests.{eqb-true}
+use Rattle.std.proofs.lemmas.Bool.Decides.{nat_tests}
 use Rattle.tray.specs.Standard.{ending_run, present_window, occurrences}
 use Rattle.tray.specs.Procedure.{Counter, repetition_step, proportion_step, after_all, start_at}
-use Rattle.tray.proofs.Windows.{eqb_same, eqb_sym, ending_run_next}
+use Rattle.tray.proofs.Windows.{eqb_same, ending_run_next}
 
 -- ---- 4.4.1
 -- From a counter that has the last sample as A and its run as B, the loop keeps it so.
@@ -20,20 +18,9 @@ repetition_from : (past : List ℕ) (k : ℕ) (c : Counter) → c.A ≡ k → c.
 unfolding after_all
 repetition_from past k c a b [] = rw (append-nil (past ++ k ∷ [])) b
 repetition_from past k c a b (X ∷ rest) =
-    rw (← append_assoc (past ++ k ∷ []) (X ∷ []) rest)
-    (repetition_from (past ++ k ∷ []) X (repetition_step c X) (is_A (eqb X c.A) refl) (is_B (eqb X c.A) refl) rest)
-  where
-    is_A : (t : Bool) → eqb X c.A ≡ t → (repetition_step c X).A ≡ X
-    is_A true t = rw t (sym (eqb-true X c.A t))
-    is_A false t = rw t
-
-    is_B : (t : Bool) → eqb X c.A ≡ t → (repetition_step c X).B ≡ ending_run ((past ++ k ∷ []) ++ X ∷ [])
-    is_B true t =
-        let equal : eqb k X ≡ true = eqb_sym k X ∙ ap (λ (n : ℕ). eqb X n) (sym a) ∙ t in
-        rw (ending_run_next past k X, equal, t) (ap suc b)
-    is_B false t =
-        let unequal : eqb k X ≡ false = eqb_sym k X ∙ ap (λ (n : ℕ). eqb X n) (sym a) ∙ t in
-        rw (ending_run_next past k X, unequal, t)
+    let is_A : (repetition_step c X).A ≡ X = grind (arith, nat_tests) in
+    let is_B : (repetition_step c X).B ≡ ending_run ((past ++ k ∷ []) ++ X ∷ []) = grind (arith, nat_tests, ending_run_next past k X) in
+    rw (← append_assoc (past ++ k ∷ []) (X ∷ []) rest) (repetition_from (past ++ k ∷ []) X (repetition_step c X) is_A is_B rest)
 
 -- Over any samples, B of the loop is the run of equal samples that ends them.
 pub repetition_loop : (first : ℕ) (rest : List ℕ) → (after_all repetition_step (start_at first) rest).B ≡ ending_run (first ∷ rest)
@@ -44,12 +31,7 @@ repetition_loop first rest = repetition_from [] first (start_at first) refl refl
 proportion_from : (c : Counter) (rest : List ℕ) → (after_all proportion_step c rest).B ≡ c.B + occurrences c.A rest
 unfolding after_all occurrences
 proportion_from c [] = omega arith
-proportion_from c (X ∷ rest) = by_cases (eqb X c.A) refl (proportion_from (proportion_step c X) rest)
-  where
-    by_cases : (t : Bool) → eqb X c.A ≡ t → (after_all proportion_step (proportion_step c X) rest).B ≡ (proportion_step c X).B + occurrences (proportion_step c X).A rest
-        → (after_all proportion_step (proportion_step c X) rest).B ≡ c.B + cond (eqb X c.A) (suc (occurrences c.A rest)) (occurrences c.A rest)
-    by_cases true t on = rw t (rw t at on ∙ omega arith)
-    by_cases false t on = rw t (rw t at on)
+proportion_from c (X ∷ rest) = grind (arith, proportion_from (proportion_step c X) rest)
 
 -- Over the samples of a window, B of the loop is the count of its first sample among them.
 pub proportion_loop : (first : ℕ) (rest : List ℕ) → (after_all proportion_step (start_at first) rest).B ≡ occurrences first (first ∷ rest)

@@ -4,31 +4,33 @@
 use Prim.Native.Nat.{ℕ, ◌≤◌, ◌<◌}
 use mathlib.Core.Path.{◌≡◌, refl, sym, ap, ◌∙◌}
 use mathlib.Core.Bool.{Bool, true, false, cond, not, ◌&&◌, true≢false}
+use mathlib.Core.Logic.{◌≢◌}
 use mathlib.Core.List.{List, [], ◌∷◌, ◌++◌}
 use native.Mathlib.Omega.{arith}
 use lib.Dec.{ltb, eqb}
 use lib.ListN.{length, get_or, set, replicate, length-replicate, get_or-replicate}
 use lib.Seq.{get_or-set_same, get_or-set_other}
-use borrow.Author.Tests.{ltb-true, eqb-true, eqb-false, eq-eqb, ne_eqb}
 use Rattle.tray.specs.declared.Seat.{Seat}
 use Rattle.tray.specs.declared.Sample.{Sample}
-use Rattle.tray.specs.declared.Verdict.{Verdict}
-use Rattle.tray.specs.declared.Verdict.TheVariants.{Counted, WrongWidth, WordTooWide, NoSuchSeat, LowCutoff}
-use Rattle.tray.specs.Seat.{fresh, top, window, wrong_width, too_wide, low_cutoff, repetition_alarm, proportion_alarm, counted, verdict, after, is_counted}
+use Rattle.std.specs.Prelude.{Ok, Err, is_ok}
+use Rattle.tray.specs.declared.Refusal.{Refusal}
+use Rattle.tray.specs.declared.Refusal.TheVariants.{WrongWidth, WordTooWide, NoSuchSeat, LowCutoff}
+use Rattle.tray.specs.Seat.{fresh, top, window, wrong_width, too_wide, low_cutoff, counted, alarms, verdict, after}
 use Rattle.tray.specs.Tray.{is_present, reply_to, tray_after}
 use Rattle.tray.specs.Sequence.{Arrival, sample_of, replies, samples_of, standard, standards}
-use Rattle.tray.proofs.Checks.{both, window_bounds}
+use Rattle.tray.proofs.Checks.{window_bounds}
+use Rattle.std.proofs.Math.Bool.{and-false}
+use Rattle.std.proofs.lemmas.Bool.Decides.{nat_tests}
 use Rattle.tray.proofs.Following.{Follows, fresh_follows, is_undamaged, repetition_is, proportion_is, follows_on}
 use Rattle.tray.proofs.Trays.{refusal_leaves, length_stays}
-use Rattle.tray.proofs.Windows.{steps_commute}
-
-and_false : (b : Bool) → (b && false) ≡ false
-and_false true = refl
-and_false false = refl
+use Rattle.tray.proofs.Windows.{eqb_same, steps_commute}
 
 -- a seat of a tray of `size` records
 abbrev is_seat : ℕ → ℕ → Bool
 is_seat size seat = ltb seat size && ltb seat 64
+
+within_size : (seat size : ℕ) → is_seat size seat ≡ true → seat < size
+within_size seat size is = grind (arith, nat_tests)
 
 module _ (width repetition proportion : ℕ) (fits : repetition ≤ top) where
   abbrev samples : ℕ → List Arrival → List ℕ
@@ -60,10 +62,10 @@ module _ (width repetition proportion : ℕ) (fits : repetition ≤ top) where
       pub leaves : AllFollow size (before ++ a ∷ []) (tray_after tray a.seat (sample a))
 
     -- a refusal that changes no seat's samples
-    refused : (t : Verdict) → is_counted t ≡ false → reply_to tray a.seat (sample a) ≡ t → standard width repetition proportion size before a ≡ t
+    refused : (t : Refusal) → reply_to tray a.seat (sample a) ≡ Err t → standard width repetition proportion size before a ≡ Err t
         → (wrong_width width ≡ false → low_cutoff repetition proportion ≡ false → (seat : ℕ) → is_seat size seat ≡ true → samples seat (before ++ a ∷ []) ≡ samples seat before) → Correct
-    refused t uncounted e e' kept =
-        let stays : tray_after tray a.seat (sample a) ≡ tray = refusal_leaves tray a.seat (sample a) (ap is_counted e ∙ uncounted) in
+    refused t e e' kept =
+        let stays : tray_after tray a.seat (sample a) ≡ tray = refusal_leaves tray a.seat (sample a) (ap is_ok e) in
         record { answers = e ∙ sym e'; leaves = rw stays (record { long = follow.long; each = λ wide high seat is. rw (kept wide high seat is) (follow.each wide high seat is) }) }
 
     abbrev r : Seat
@@ -78,25 +80,26 @@ module _ (width repetition proportion : ℕ) (fits : repetition ≤ top) where
       unfolding is_present
       present = rw follow.long seat_is
 
-      answer : reply_to tray a.seat (sample a) ≡ Counted (repetition_alarm r repetition a.word) (proportion_alarm r proportion a.word)
+      answer : reply_to tray a.seat (sample a) ≡ Ok (alarms r (sample a))
       unfolding reply_to verdict
       answer = rw (right_width, narrow, present, right_cutoffs, is_undamaged (window width) (window_bounds width).0 (samples a.seat before) r its_record)
 
       tray_left : tray_after tray a.seat (sample a) ≡ set tray a.seat (counted (window width) r a.word)
       unfolding reply_to tray_after after
-      tray_left = let is : is_counted (verdict (is_present tray a.seat) r (sample a)) ≡ true = ap is_counted answer in rw is
+      tray_left = let is : is_ok (verdict (is_present tray a.seat) r (sample a)) ≡ true = ap is_ok answer in rw is
 
       still_follows : (seat : ℕ) → is_seat size seat ≡ true → Follows (window width) (samples seat (before ++ a ∷ [])) (get_or (set tray a.seat (counted (window width) r a.word)) seat fresh)
       still_follows seat is = by_cases (eqb a.seat seat) refl
         where
           by_cases : (t : Bool) → eqb a.seat seat ≡ t → Follows (window width) (samples seat (before ++ a ∷ [])) (get_or (set tray a.seat (counted (window width) r a.word)) seat fresh)
           by_cases true t =
-              let equal : a.seat ≡ seat = eqb-true a.seat seat t in
-              let within : a.seat < length tray = omega (arith, follow.long, ltb-true a.seat size (both (ltb a.seat size) (ltb a.seat 64) seat_is).0) in
-              rw (← equal, samples_snoc a.seat before a, eq-eqb a.seat a.seat refl, narrow, get_or-set_same tray a.seat (counted (window width) r a.word) fresh within)
+              let equal : a.seat ≡ seat = grind (arith, nat_tests) in
+              let within : a.seat < length tray = omega (arith, follow.long, within_size a.seat size seat_is) in
+              rw (← equal, samples_snoc a.seat before a, eqb_same a.seat, narrow, get_or-set_same tray a.seat (counted (window width) r a.word) fresh within)
               (follows_on (window width) (window_bounds width).0 (samples a.seat before) r its_record a.word)
           by_cases false t =
-              rw (samples_snoc seat before a, t, get_or-set_other tray a.seat seat (counted (window width) r a.word) fresh (λ e. eqb-false a.seat seat t (sym e))) (follow.each right_width right_cutoffs seat is)
+              let other : seat ≢ a.seat = grind (arith, nat_tests) in
+              rw (samples_snoc seat before a, t, get_or-set_other tray a.seat seat (counted (window width) r a.word) fresh other) (follow.each right_width right_cutoffs seat is)
 
       counted_correct : Correct
       unfolding standard
@@ -117,15 +120,15 @@ module _ (width repetition proportion : ℕ) (fits : repetition ≤ top) where
     one = by_cases (wrong_width width) (too_wide width a.word) (is_seat size a.seat) (low_cutoff repetition proportion) refl refl refl refl
       where
         by_cases : (w t u l : Bool) → wrong_width width ≡ w → too_wide width a.word ≡ t → is_seat size a.seat ≡ u → low_cutoff repetition proportion ≡ l → Correct
-        by_cases true t u l w e is low = refused WrongWidth refl (rw w) (rw w) (λ wide. absurd (true≢false (sym w ∙ wide)))
+        by_cases true t u l w e is low = refused WrongWidth (rw w) (rw w) (λ wide. absurd (true≢false (sym w ∙ wide)))
         by_cases false true u l w e is low =
-            refused WordTooWide refl (rw (w, e)) (rw (w, e)) (λ wide high seat there. rw (samples_snoc seat before a, e, and_false (eqb a.seat seat)))
+            refused WordTooWide (rw (w, e)) (rw (w, e)) (λ wide high seat there. rw (samples_snoc seat before a, e, and-false (eqb a.seat seat)))
         by_cases false false false l w e is low =
-            refused NoSuchSeat refl (rw (w, e, follow.long, is)) (rw (w, e, is)) (λ wide high seat there.
-            let differs : eqb a.seat seat ≡ false = ne_eqb a.seat seat (λ q. true≢false (sym there ∙ ap (is_seat size) (sym q) ∙ is)) in
+            refused NoSuchSeat (rw (w, e, follow.long, is)) (rw (w, e, is)) (λ wide high seat there.
+            let differs : eqb a.seat seat ≡ false = grind (arith, nat_tests) in
             rw (samples_snoc seat before a, differs))
         by_cases false false true true w e is low =
-            refused LowCutoff refl (rw (w, e, follow.long, is, low)) (rw (w, e, is, low)) (λ wide high. absurd (true≢false (sym low ∙ high)))
+            refused LowCutoff (rw (w, e, follow.long, is, low)) (rw (w, e, is, low)) (λ wide high. absurd (true≢false (sym low ∙ high)))
         by_cases false false true false w e is low = counted_correct w e is low
 
   all_correct : (size : ℕ) (before : List Arrival) (tray : List Seat) → AllFollow size before tray → (arrivals : List Arrival)
@@ -140,7 +143,7 @@ module _ (width repetition proportion : ℕ) (fits : repetition ≤ top) where
   unfolding samples_of
   all_fresh size = record {
     long = length-replicate size fresh;
-    each = λ wide high seat is. rw (get_or-replicate size seat fresh fresh (ltb-true seat size (both (ltb seat size) (ltb seat 64) is).0)) (fresh_follows (window width));
+    each = λ wide high seat is. rw (get_or-replicate size seat fresh fresh (within_size seat size is)) (fresh_follows (window width));
   }
 
   -- THE PROMISE: on a fresh tray of any size the answers to any arrivals are the expected ones.

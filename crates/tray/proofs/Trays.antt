@@ -7,21 +7,23 @@ use mathlib.Core.Logic.{◌≢◌}
 use lib.Dec.{ltb}
 use lib.ListN.{length, get_or, set, length-set, get_or-eq_default}
 use lib.Seq.{set_out, set-get_or, get_or-set_other}
-use borrow.Author.Tests.{lt-ltb, le-ltb}
+use native.Mathlib.Omega.{arith}
+use Rattle.std.proofs.lemmas.Bool.Decides.{nat_tests}
 use Rattle.tray.specs.declared.Seat.{Seat}
 use Rattle.tray.specs.declared.Sample.{Sample}
-use Rattle.tray.specs.declared.Verdict.{Verdict}
-use Rattle.tray.specs.Seat.{fresh, verdict, is_counted, after}
+use Rattle.tray.specs.Verdict.{Verdict}
+use Rattle.std.specs.Prelude.{is_ok}
+use Rattle.tray.specs.Seat.{fresh, verdict, after}
 use Rattle.tray.specs.Tray.{is_present, reply_to, tray_after, Sampled}
 
 module _ (tray : List Seat) (seat : ℕ) where
   pub present : seat < length tray → is_present tray seat ≡ ltb seat 64
   unfolding is_present
-  present within = simp (lt-ltb seat (length tray) within)
+  present within = grind (arith, nat_tests)
 
   pub missing : length tray ≤ seat → is_present tray seat ≡ false
   unfolding is_present
-  missing past = simp (le-ltb seat (length tray) past)
+  missing past = grind (arith, nat_tests)
 
 module _ (tray : List Seat) (seat : ℕ) (s : Sample) where
   -- Every other record stays as it was.
@@ -34,20 +36,19 @@ module _ (tray : List Seat) (seat : ℕ) (s : Sample) where
   length_stays = length-set tray seat _
 
   -- A refusal changes nothing.
-  pub refusal_leaves : is_counted (reply_to tray seat s) ≡ false → tray_after tray seat s ≡ tray
+  pub refusal_leaves : is_ok (reply_to tray seat s) ≡ false → tray_after tray seat s ≡ tray
   unfolding tray_after reply_to after
   refusal_leaves refused = simp refused (set-get_or tray seat fresh)
 
-  -- The contract of `take_sample`, from what `take_at` and `absent` ensure.
-  pub sampled_present : (left : List Seat) (answer : Verdict) → seat < length tray
-      → (answer ≡ verdict (ltb seat 64) (get_or tray seat fresh) s) × (left ≡ set tray seat (after (ltb seat 64) (get_or tray seat fresh) s))
-      → Sampled tray seat s left answer
+  -- The contract of `take_sample`, for a seat in the tray and for any other.
+  pub sampled_present : {left : Seat} {answer : Verdict} → seat < length tray → answer ≡ verdict (ltb seat 64) (get_or tray seat fresh) s
+      → left ≡ after (ltb seat 64) (get_or tray seat fresh) s → Sampled tray seat s (set tray seat left) answer
   unfolding tray_after reply_to
-  sampled_present left answer within known = record { answers = rw (present tray seat within) known.0; leaves = rw (present tray seat within) known.1 }
+  sampled_present within answers leaves = record { answers = rw (present tray seat within) answers; leaves = rw (present tray seat within, leaves) }
 
-  pub sampled_missing : (answer : Verdict) → length tray ≤ seat → answer ≡ verdict false fresh s → Sampled tray seat s tray answer
+  pub sampled_missing : {answer : Verdict} → length tray ≤ seat → answer ≡ verdict false fresh s → Sampled tray seat s tray answer
   unfolding tray_after reply_to
-  sampled_missing answer past known = record {
+  sampled_missing past known = record {
     answers = rw (missing tray seat past, get_or-eq_default tray fresh past) known;
     leaves = sym (set_out tray seat _ past);
   }

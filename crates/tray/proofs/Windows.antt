@@ -1,50 +1,35 @@
 -- The standard's counts, as the list of samples grows by one. Assumes nothing.
 use Prim.Native.Nat.{ℕ, suc, ◌-◌, ◌%◌, ◌≤◌, ◌<◌}
-use mathlib.Core.Path.{◌≡◌, refl, sym, ap, ◌∙◌}
-use mathlib.Core.Bool.{Bool, true, false, cond, ◌&&◌}
+use mathlib.Core.Path.{◌≡◌, refl, ap, ◌∙◌}
+use mathlib.Core.Bool.{Bool, true, cond, ◌&&◌}
 use mathlib.Core.List.{List, [], ◌∷◌, ◌++◌}
 use native.Mathlib.Omega.{arith}
 use native.Mathlib.Nat.{mod-le, suc-mod, mod-eq_of_lt, mod_self}
 use lib.Dec.{eqb}
 use lib.ListN.{length, length-append, length-drop, drop_of_length-le}
 use lib.Seq.{drop-append-le}
-use borrow.Author.Tests.{eqb-true, eqb-false, eq-eqb, ne_eqb}
-use Rattle.tray.proofs.Checks.{both}
+use Rattle.std.proofs.lemmas.Bool.Decides.{nat_tests}
+use Rattle.std.proofs.Math.Bool.{and-true}
 use Rattle.tray.specs.Standard.{all_equal, ending_run, present_window, occurrences}
 
 pub eqb_same : (n : ℕ) → eqb n n ≡ true
-eqb_same n = eq-eqb n n refl
+eqb_same n = grind (arith, nat_tests)
 
 pub eqb_sym : (a b : ℕ) → eqb a b ≡ eqb b a
-eqb_sym a b = by_cases (eqb a b) refl
-  where
-    by_cases : (t : Bool) → eqb a b ≡ t → eqb a b ≡ eqb b a
-    by_cases true e = rw (e, eq-eqb b a (sym (eqb-true a b e)))
-    by_cases false e = rw (e, ne_eqb b a (λ q. eqb-false a b e (sym q)))
+eqb_sym a b = grind (arith, nat_tests)
 
 -- Two optional steps commute if the steps do.
 pub steps_commute : {A : Type 0} (t u : Bool) (f g : A → A) (x : A) → f (g x) ≡ g (f x)
     → cond t (f (cond u (g x) x)) (cond u (g x) x) ≡ cond u (g (cond t (f x) x)) (cond t (f x) x)
-steps_commute true true f g x commute = commute
-steps_commute true false f g x commute = refl
-steps_commute false true f g x commute = refl
-steps_commute false false f g x commute = refl
+steps_commute t u f g x commute = grind arith
 
 all_equal_snoc : (a : ℕ) (xs : List ℕ) (k : ℕ) → all_equal a (xs ++ k ∷ []) ≡ (all_equal a xs && eqb k a)
-all_equal_snoc a [] k = by_cases (eqb k a) refl
-  where
-    by_cases : (t : Bool) → eqb k a ≡ t → (eqb k a && true) ≡ eqb k a
-    by_cases true e = rw e
-    by_cases false e = rw e
-all_equal_snoc a (x ∷ xs) k = by_cases (eqb x a) refl (all_equal_snoc a xs k)
-  where
-    by_cases : (t : Bool) → eqb x a ≡ t → all_equal a (xs ++ k ∷ []) ≡ (all_equal a xs && eqb k a) → (eqb x a && all_equal a (xs ++ k ∷ [])) ≡ ((eqb x a && all_equal a xs) && eqb k a)
-    by_cases true e before = rw (e, before)
-    by_cases false e before = rw e
+all_equal_snoc a [] k = and-true (eqb k a)
+all_equal_snoc a (x ∷ xs) k = grind (arith, all_equal_snoc a xs k)
 
 -- If all of xs and k are a, then k is a.
 last_equal : (a : ℕ) (xs : List ℕ) (k : ℕ) → all_equal a (xs ++ k ∷ []) ≡ true → k ≡ a
-last_equal a xs k h = eqb-true k a (both (all_equal a xs) (eqb k a) (sym (all_equal_snoc a xs k) ∙ h)).1
+last_equal a xs k h = grind (arith, nat_tests, all_equal_snoc a xs k)
 
 pub length_snoc : (xs : List ℕ) (k : ℕ) → length (xs ++ k ∷ []) ≡ suc (length xs)
 length_snoc xs k = simp length-append (omega arith)
@@ -52,24 +37,9 @@ length_snoc xs k = simp length-append (omega arith)
 -- A sample that equals the one before it makes the run longer by 1. Any other sample starts a run of 1.
 pub ending_run_next : (past : List ℕ) (k j : ℕ) → ending_run ((past ++ k ∷ []) ++ j ∷ []) ≡ cond (eqb k j) (suc (ending_run (past ++ k ∷ []))) 1
 unfolding ending_run
-ending_run_next [] k j = by_cases (eqb k j) refl
-  where
-    by_cases : (t : Bool) → eqb k j ≡ t → ◌≡◌ {A = ℕ} (cond (eqb j k && true) 2 1) (cond (eqb k j) 2 1)
-    by_cases true e = rw (e, eqb_sym j k, e)
-    by_cases false e = rw (e, eqb_sym j k, e)
-ending_run_next (x ∷ xs) k j = by_cases (eqb k j) (all_equal x (xs ++ k ∷ [])) refl refl (ending_run_next xs k j)
-  where
-    by_cases : (t u : Bool) → eqb k j ≡ t → all_equal x (xs ++ k ∷ []) ≡ u → ending_run ((xs ++ k ∷ []) ++ j ∷ []) ≡ cond (eqb k j) (suc (ending_run (xs ++ k ∷ []))) 1
-        → cond (all_equal x ((xs ++ k ∷ []) ++ j ∷ [])) (suc (length ((xs ++ k ∷ []) ++ j ∷ []))) (ending_run ((xs ++ k ∷ []) ++ j ∷ []))
-        ≡ cond (eqb k j) (suc (cond (all_equal x (xs ++ k ∷ [])) (suc (length (xs ++ k ∷ []))) (ending_run (xs ++ k ∷ [])))) 1
-    by_cases true true e u before =
-        let equal : eqb j x ≡ true = eq-eqb j x (sym (eqb-true k j e) ∙ last_equal x xs k u) in
-        rw (all_equal_snoc x (xs ++ k ∷ []) j, u, equal, e, length_snoc (xs ++ k ∷ []) j)
-    by_cases true false e u before = rw (all_equal_snoc x (xs ++ k ∷ []) j, u, before, e)
-    by_cases false true e u before =
-        let differs : eqb j x ≡ false = ne_eqb j x (λ q. eqb-false k j e (last_equal x xs k u ∙ sym q)) in
-        rw (all_equal_snoc x (xs ++ k ∷ []) j, u, differs, before, e)
-    by_cases false false e u before = rw (all_equal_snoc x (xs ++ k ∷ []) j, u, before, e)
+ending_run_next [] k j = grind (arith, nat_tests)
+ending_run_next (x ∷ xs) k j =
+    grind (arith, nat_tests, all_equal_snoc x (xs ++ k ∷ []) j, all_equal_snoc x xs k, length_snoc (xs ++ k ∷ []) j, ending_run_next xs k j)
 
 pub occurrences_snoc : (a : ℕ) (xs : List ℕ) (k : ℕ) → occurrences a (xs ++ k ∷ []) ≡ cond (eqb k a) (suc (occurrences a xs)) (occurrences a xs)
 unfolding occurrences
@@ -79,11 +49,7 @@ occurrences_snoc a (x ∷ xs) k = rw (occurrences_snoc a xs k) (steps_commute (e
 pub occurrences_at_most : (a : ℕ) (xs : List ℕ) → occurrences a xs ≤ length xs
 unfolding occurrences
 occurrences_at_most a [] = omega arith
-occurrences_at_most a (x ∷ xs) = by_cases (eqb x a) refl (occurrences_at_most a xs)
-  where
-    by_cases : (t : Bool) → eqb x a ≡ t → occurrences a xs ≤ length xs → cond (eqb x a) (suc (occurrences a xs)) (occurrences a xs) ≤ suc (length xs)
-    by_cases true e few = rw e (omega arith)
-    by_cases false e few = rw e (omega arith)
+occurrences_at_most a (x ∷ xs) = grind (arith, occurrences_at_most a xs)
 
 -- The present window grows by a sample until it is full, and then a new one begins.
 module _ (size : ℕ) (past : List ℕ) where

@@ -1,11 +1,12 @@
 -- One seat's record: the answer to a sample, and the record after it. Cutoffs, words and counts are numbers.
 -- Document 02, §6: "Each test's own alarm is raised at each sample that lifts the standard's count to the cutoff or past it, or repeats the
 -- word of a run at its top, and at no other; counting goes on after it."
-use Rattle.std.specs.Prelude.{ℕ, suc, ◌^◌, min, Bool, true, false, cond, ◌&&◌, ◌||◌, ltb, leb, eqb}
+use Rattle.std.specs.Prelude.{ℕ, suc, ◌^◌, min, Bool, cond, ◌&&◌, ◌||◌, ltb, leb, eqb, Ok, Err, is_ok}
 use Rattle.tray.specs.declared.Seat.{Seat}
 use Rattle.tray.specs.declared.Sample.{Sample}
-use Rattle.tray.specs.declared.Verdict.{Verdict}
-use Rattle.tray.specs.declared.Verdict.TheVariants.{Counted, WrongWidth, WordTooWide, NoSuchSeat, LowCutoff, Damage}
+use Rattle.tray.specs.declared.Alarms.{Alarms}
+use Rattle.tray.specs.declared.Refusal.TheVariants.{WrongWidth, WordTooWide, NoSuchSeat, LowCutoff, Damage}
+use Rattle.tray.specs.Verdict.{Verdict}
 
 -- "A fresh record is all zeros"
 abbrev pub fresh : Seat
@@ -67,26 +68,22 @@ low_cutoff repetition proportion = ltb repetition 2 || ltb proportion 2
 unfoldable pub damaged : ℕ → Seat → Bool
 damaged size r = leb size r.place || ltb r.place r.count
 
+-- the alarms of a sample that is counted
+abbrev pub alarms : Seat → Sample → Alarms
+alarms r s = record { repetition = repetition_alarm r s.repetition s.word; proportion = proportion_alarm r s.proportion s.word }
+
 -- The answer to a sample. The order of the lines is the order of the refusals. `present` says whether the seat is in the tray and below 64; if
 -- not, the record plays no part.
 unfoldable pub verdict : Bool → Seat → Sample → Verdict
 verdict present r s =
-    cond (wrong_width s.width) WrongWidth
-    (cond (too_wide s.width s.word) WordTooWide
+    cond (wrong_width s.width) (Err WrongWidth)
+    (cond (too_wide s.width s.word) (Err WordTooWide)
     (cond present
-    (cond (low_cutoff s.repetition s.proportion) LowCutoff
-    (cond (damaged (window s.width) r) Damage
-    (Counted (repetition_alarm r s.repetition s.word) (proportion_alarm r s.proportion s.word))))
-    NoSuchSeat))
-
-abbrev pub is_counted : Verdict → Bool
-is_counted (Counted repetition proportion) = true
-is_counted WrongWidth = false
-is_counted WordTooWide = false
-is_counted NoSuchSeat = false
-is_counted LowCutoff = false
-is_counted Damage = false
+    (cond (low_cutoff s.repetition s.proportion) (Err LowCutoff)
+    (cond (damaged (window s.width) r) (Err Damage)
+    (Ok (alarms r s))))
+    (Err NoSuchSeat)))
 
 -- The record after a sample. A refusal changes nothing.
 unfoldable pub after : Bool → Seat → Sample → Seat
-after present r s = cond (is_counted (verdict present r s)) (counted (window s.width) r s.word) r
+after present r s = cond (is_ok (verdict present r s)) (counted (window s.width) r s.word) r

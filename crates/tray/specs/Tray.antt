@@ -3,7 +3,7 @@
 use Rattle.std.specs.Prelude.{ℕ, ◌≡◌, Bool, ◌&&◌, List, ltb, length, get_or, set}
 use Rattle.tray.specs.declared.Seat.{Seat}
 use Rattle.tray.specs.declared.Sample.{Sample}
-use Rattle.tray.specs.declared.Verdict.{Verdict}
+use Rattle.tray.specs.Verdict.{Verdict}
 use Rattle.tray.specs.Seat.{fresh, verdict, after}
 
 unfoldable pub is_present : List Seat → ℕ → Bool

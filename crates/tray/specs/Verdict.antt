@@ -1,12 +1,17 @@
 -- The document's number for each verdict.
-use Rattle.std.specs.Prelude.{ℕ}
-use Rattle.tray.specs.declared.Verdict.{Verdict}
-use Rattle.tray.specs.declared.Verdict.TheVariants.{Counted, WrongWidth, WordTooWide, NoSuchSeat, LowCutoff, Damage}
+use Rattle.std.specs.Prelude.{ℕ, Result, Ok, Err}
+use Rattle.tray.specs.declared.Alarms.{Alarms}
+use Rattle.tray.specs.declared.Refusal.{Refusal}
+use Rattle.tray.specs.declared.Refusal.TheVariants.{WrongWidth, WordTooWide, Damage, NoSuchSeat, LowCutoff}
+
+-- the answer to a sample: both alarms, or a refusal
+abbrev pub Verdict : Type 0
+Verdict = Result Alarms Refusal
 
 abbrev pub number_of : Verdict → ℕ
-number_of (Counted repetition proportion) = 0
-number_of WrongWidth = 1
-number_of WordTooWide = 3
-number_of NoSuchSeat = 13
-number_of LowCutoff = 14
-number_of Damage = 4
+number_of (Ok alarms) = 0
+number_of (Err WrongWidth) = 1
+number_of (Err WordTooWide) = 3
+number_of (Err NoSuchSeat) = 13
+number_of (Err LowCutoff) = 14
+number_of (Err Damage) = 4

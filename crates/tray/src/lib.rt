@@ -1,18 +1,20 @@
 // Health tests for a tray of up to 64 chips: the repetition count test and the adaptive proportion test of NIST SP 800-90B, 4.4.1 and
 // 4.4.2, sample by sample. Document 02, §6; specs/Seat.antt quotes it and defines the answer to each sample and the record after it.
 //
-// A caller lends its tray and calls `take_sample`. The work is done by value, on one seat's record; two functions touch the tray.
+// A caller lends its tray and calls `take_sample`. Two functions touch what is lent, `take_sample` the tray and `take` one record of it. The
+// work is done by value.
 #![tactic(auto)]
 
-ghost use Rattle.std.specs.Prelude.{◌≡◌, ◌<◌, ◌≤◌, false, ltb, length, get_or, set};
+ghost use Rattle.std.specs.Prelude.{◌≡◌, ◌<◌, ◌≤◌, false, ltb, IfOk, IfErr};
 ghost use Rattle.tray.specs.Seat.{fresh, window, wrong_width, too_wide, low_cutoff, damaged};
 ghost use Rattle.tray.specs.Seat.{repeats, run_with, repetition_alarm, is_window_word, window_word, count_with, proportion_alarm};
-ghost use Rattle.tray.specs.Seat.{counted, verdict, after};
+ghost use Rattle.tray.specs.Seat.{counted, alarms, verdict, after};
 ghost use Rattle.tray.specs.Tray.{Sampled};
 ghost use Rattle.tray.specs.Verdict.{number_of};
 
-// "a lent table of seat records, one for each chip, with the last word, its run, the proportion window's word, its place and its count"
-#[derive(Clone, Copy)]
+// "a lent table of seat records, one for each chip, with the last word, its run, the proportion window's word, its place and its count".
+// "A fresh record is all zeros", so it is the default.
+#[derive(Clone, Copy, Debug, Default, PartialEq, Eq)]
 pub struct Seat {
     pub last: u32,
     pub run: u32,
@@ -22,7 +24,7 @@ pub struct Seat {
 }
 
 // "The word width and the cutoffs are handed in with each sample". `repetition` and `proportion` are the cutoffs of the two tests.
-#[derive(Clone, Copy)]
+#[derive(Clone, Copy, Debug, PartialEq, Eq)]
 pub struct Sample {
     pub width: u32,
     pub word: u32,
@@ -30,33 +32,33 @@ pub struct Sample {
     pub proportion: u32,
 }
 
-// The answer to a sample: both alarms, or a refusal. `number_of`, in specs/Verdict.antt, gives each its number in the document.
-#[derive(Clone, Copy)]
-pub enum Verdict {
-    Counted { repetition: bool, proportion: bool },
-    WrongWidth,
-    WordTooWide,
-    NoSuchSeat,
-    LowCutoff,
-    Damage,
+// The alarms of the two tests. By default none is raised.
+#[derive(Clone, Copy, Debug, Default, PartialEq, Eq)]
+pub struct Alarms {
+    pub repetition: bool,
+    pub proportion: bool,
 }
 
-impl Verdict {
-    // The document's answer number.
-    pub fn number(self) -> u32
-        ensures { result ≡ number_of self }
-    {
-        match self {
-            Verdict::Counted {
-                repetition: _,
-                proportion: _,
-            } => 0,
-            Verdict::WrongWidth => 1,
-            Verdict::WordTooWide => 3,
-            Verdict::NoSuchSeat => 13,
-            Verdict::LowCutoff => 14,
-            Verdict::Damage => 4,
-        }
+// Why a sample is not counted, with the document's number of each refusal.
+#[derive(Clone, Copy, Debug, PartialEq, Eq)]
+pub enum Refusal {
+    WrongWidth = 1,
+    WordTooWide = 3,
+    Damage = 4,
+    NoSuchSeat = 13,
+    LowCutoff = 14,
+}
+
+// The answer to a sample that is counted, or to one that is refused.
+pub type Verdict = Result<Alarms, Refusal>;
+
+// The document's answer number: 0 for a sample that is counted.
+pub fn number(verdict: Verdict) -> u32
+    ensures { result ≡ number_of verdict }
+{
+    match verdict {
+        Ok(_) => 0,
+        Err(refusal) => refusal as u32,
     }
 }
 
@@ -64,21 +66,12 @@ impl Verdict {
 pub fn take_sample(tray: &mut [Seat], seat: usize, sample: Sample) -> Verdict
     ensures { Sampled tray.old seat sample tray.new result }
 {
+    // By index: the library says nothing of what the slice ends as after a `get_mut`.
     if seat < tray.len() {
-        return take_at(tray, seat, sample);
+        tray[seat].take(seat, sample)
+    } else {
+        absent(sample)
     }
-    absent(sample)
-}
-
-// Takes a sample for a seat that has a record.
-fn take_at(tray: &mut [Seat], seat: usize, sample: Sample) -> Verdict
-    requires in_tray { seat < length tray.old }
-    ensures { (result ≡ verdict (ltb seat 64) (get_or tray.old seat fresh) sample)
-        × (tray.new ≡ set tray.old seat (after (ltb seat 64) (get_or tray.old seat fresh) sample)) }
-{
-    let record = tray[seat];
-    tray[seat] = record.after(seat, sample);
-    record.verdict(seat, sample)
 }
 
 // The answer for a seat that has no record. No tray has a seat 64, so the fresh record plays no part.
@@ -89,69 +82,73 @@ pub fn absent(sample: Sample) -> Verdict
 }
 
 impl Seat {
-    // "a run stays at 4,294,967,295 once it is there"
-    pub const TOP: u32 = 4294967295;
-
-    // "A fresh record is all zeros"
     pub fn fresh() -> Self
         ensures { result ≡ fresh }
     {
-        Self {
-            last: 0,
-            run: 0,
-            word: 0,
-            place: 0,
-            count: 0,
-        }
+        Self::default()
     }
 
     // The answer to a sample; `seat` is the number of this record's seat.
     pub fn verdict(self, seat: usize, sample: Sample) -> Verdict
         ensures { result ≡ verdict (ltb seat 64) self sample }
     {
-        if wrong_width(sample.width) {
-            return Verdict::WrongWidth;
-        }
-        if too_wide(sample.width, sample.word) {
-            return Verdict::WordTooWide;
-        }
-        if 64 <= seat {
-            return Verdict::NoSuchSeat;
-        }
-        if low_cutoff(sample.repetition, sample.proportion) {
-            return Verdict::LowCutoff;
-        }
-        if self.damaged(window(sample.width)) {
-            return Verdict::Damage;
-        }
-        Verdict::Counted {
-            repetition: self.repetition_alarm(sample.repetition, sample.word),
-            proportion: self.proportion_alarm(sample.proportion, sample.word),
-        }
+        Ok(self.checked(seat, sample)?.alarms(sample))
     }
 
     // The record after the sample.
+    #[tactic(auto, unfolding(crate::specs::Seat::after))]
     pub fn after(self, seat: usize, sample: Sample) -> Self
         ensures { result ≡ after (ltb seat 64) self sample }
     {
-        let answer = self.verdict(seat, sample);
-        match answer {
-            Verdict::Counted {
-                repetition: _,
-                proportion: _,
-            } => self.counted(window(sample.width), sample.word),
-            _ => self,
+        match self.checked(seat, sample) {
+            Ok(checked) => checked.counted(sample.word),
+            Err(_) => self,
         }
     }
 
+    // Takes a sample: the answer, and in place of the record the one after the sample.
+    #[tactic(auto, unfolding(crate::specs::Seat::after))]
+    fn take(&mut self, seat: usize, sample: Sample) -> Verdict
+        ensures answers { result ≡ verdict (ltb seat 64) self.old sample }
+        ensures leaves { self.new ≡ after (ltb seat 64) self.old sample }
+    {
+        let checked = self.checked(seat, sample)?;
+        *self = checked.counted(sample.word);
+        Ok(checked.alarms(sample))
+    }
+
+    // The refusals, in the document's order.
+    #[tactic(auto, using(crate::proofs::Checks::at_most_32, crate::proofs::Checks::window_bounds, crate::proofs::Checks::undamaged), unfolding(crate::specs::Seat::verdict))]
+    fn checked(self, seat: usize, sample: Sample) -> Result<Checked, Refusal>
+        ensures this_record { IfOk result (λ c. (c.record ≡ self) × (c.size ≡ window sample.width)) }
+        ensures counted { IfOk result (λ c. verdict (ltb seat 64) self sample ≡ Ok (alarms self sample)) }
+        ensures refused { IfErr result (λ e. verdict (ltb seat 64) self sample ≡ Err e) }
+    {
+        if sample.has_wrong_width() {
+            return Err(Refusal::WrongWidth);
+        }
+        if sample.is_too_wide() {
+            return Err(Refusal::WordTooWide);
+        }
+        if seat >= 64 {
+            return Err(Refusal::NoSuchSeat);
+        }
+        if sample.has_low_cutoff() {
+            return Err(Refusal::LowCutoff);
+        }
+        let size = sample.window();
+        if self.is_damaged(size) {
+            return Err(Refusal::Damage);
+        }
+        Ok(Checked { record: self, size })
+    }
+
     // Refusal 4.
-    fn damaged(self, size: u32) -> bool
+    #[tactic(auto, unfolding(crate::specs::Seat::damaged))]
+    fn is_damaged(self, size: u32) -> bool
         ensures { result ≡ damaged size self }
     {
-        if size <= self.place {
-            return true;
-        }
-        self.place < self.count
+        self.place >= size || self.count > self.place
     }
 
     // Whether the word repeats the last one; "a run of 0 means no sample yet".
@@ -159,130 +156,137 @@ impl Seat {
     fn repeats(self, word: u32) -> bool
         ensures { result ≡ repeats self word }
     {
-        if self.run == 0 {
-            return false;
-        }
-        self.last == word
+        self.run != 0 && self.last == word
     }
 
-    // The run with this word counted.
+    // The run with this word counted. "a run stays at 4,294,967,295 once it is there"
+    #[tactic(auto, unfolding(crate::specs::Seat::run_with))]
     fn run_with(self, word: u32) -> u32
         ensures { result ≡ run_with self word }
     {
         if self.repeats(word) {
-            if self.run == Seat::TOP {
-                Seat::TOP
-            } else {
-                self.run + 1
-            }
+            self.run.saturating_add(1)
         } else {
             1
         }
     }
 
-    // A cutoff is at most the top, so at the top every repeat alarms.
+    // A cutoff is at most the top of a run, so at the top every repeat alarms.
+    #[tactic(auto, using(crate::proofs::Checks::run_decides))]
     fn repetition_alarm(self, cutoff: u32, word: u32) -> bool
         ensures { result ≡ repetition_alarm self cutoff word }
     {
-        cutoff <= self.run_with(word)
+        self.run_with(word) >= cutoff
     }
 
     // Whether the word is the window's word. A window's first word is.
+    #[tactic(auto, unfolding(crate::specs::Seat::is_window_word))]
     fn is_window_word(self, word: u32) -> bool
         ensures { result ≡ is_window_word self word }
     {
-        if self.place == 0 {
-            return true;
-        }
-        self.word == word
+        self.place == 0 || self.word == word
     }
 
     // The window's word after this word. A window's first word becomes it.
+    #[tactic(auto, unfolding(crate::specs::Seat::window_word))]
     fn window_word(self, word: u32) -> u32
         ensures { result ≡ window_word self word }
     {
         if self.place == 0 { word } else { self.word }
     }
+}
 
-    // The count of the window's word, with this word counted.
-    fn count_with(self, word: u32) -> u32
-        requires undamaged { self.count < 1024 }
-        ensures { result ≡ count_with self word }
+// A record that is not damaged, with the size of its window: a sample can be counted.
+#[derive(Clone, Copy)]
+struct Checked {
+    record: Seat,
+    size: u32,
+    ghost short: { size ≤ 1024 },
+    ghost place: { record.place < size },
+    ghost count: { record.count ≤ record.place },
+}
+
+impl Checked {
+    fn alarms(self, sample: Sample) -> Alarms
+        ensures { result ≡ alarms self.record sample }
     {
-        if self.is_window_word(word) {
-            self.count + 1
-        } else {
-            self.count
+        Alarms {
+            repetition: self.record.repetition_alarm(sample.repetition, sample.word),
+            proportion: self.proportion_alarm(sample.proportion, sample.word),
         }
     }
 
-    fn proportion_alarm(self, cutoff: u32, word: u32) -> bool
-        requires undamaged { self.count < 1024 }
-        ensures { result ≡ proportion_alarm self cutoff word }
+    // The count of the window's word, with this word counted.
+    #[tactic(auto, unfolding(crate::specs::Seat::count_with))]
+    fn count_with(self, word: u32) -> u32
+        ensures { result ≡ count_with self.record word }
     {
-        if self.is_window_word(word) {
-            cutoff <= self.count_with(word)
-        } else {
-            false
-        }
+        self.record.count + u32::from(self.record.is_window_word(word))
+    }
+
+    #[tactic(auto, unfolding(crate::specs::Seat::proportion_alarm))]
+    fn proportion_alarm(self, cutoff: u32, word: u32) -> bool
+        ensures { result ≡ proportion_alarm self.record cutoff word }
+    {
+        self.record.is_window_word(word) && self.count_with(word) >= cutoff
     }
 
     // The record with one more word counted.
-    fn counted(self, size: u32, word: u32) -> Self
-        requires undamaged { (self.place < 1024) × (self.count < 1024) }
-        ensures { result ≡ counted size self word }
+    #[tactic(auto, unfolding(crate::specs::Seat::counted))]
+    fn counted(self, word: u32) -> Seat
+        ensures { result ≡ counted self.size self.record word }
     {
-        let run = self.run_with(word);
-        if self.place + 1 == size {
-            return Self {
-                last: word,
-                run,
-                word: 0,
-                place: 0,
-                count: 0,
-            };
-        }
-        Self {
+        let last = Seat {
             last: word,
-            run,
-            word: self.window_word(word),
-            place: self.place + 1,
+            run: self.record.run_with(word),
+            ..Seat::fresh()
+        };
+        let place = self.record.place + 1;
+        if place == self.size {
+            return last;
+        }
+        Seat {
+            word: self.record.window_word(word),
+            place,
             count: self.count_with(word),
+            ..last
         }
     }
 }
 
-// "the proportion window is 1,024 samples for one-bit words and 512 for wider ones"
-fn window(width: u32) -> u32
-    ensures { result ≡ window width }
-{
-    if width == 1 { 1024 } else { 512 }
-}
-
-// Refusal 1.
-fn wrong_width(width: u32) -> bool
-    ensures { result ≡ wrong_width width }
-{
-    if width == 0 {
-        return true;
+// A width and a word are judged here as crate `pretree` judges its own. These are two short tests; sharing them would make the tray depend on the
+// set's crate.
+impl Sample {
+    // "the proportion window is 1,024 samples for one-bit words and 512 for wider ones"
+    #[tactic(auto, unfolding(crate::specs::Seat::window))]
+    fn window(self) -> u32
+        ensures { result ≡ window self.width }
+    {
+        if self.width == 1 { 1024 } else { 512 }
     }
-    32 < width
-}
 
-// Refusal 3.
-fn too_wide(width: u32, word: u32) -> bool
-    requires right_width { width ≤ 32 }
-    ensures { result ≡ too_wide width word }
-{
-    1u64 << width <= word as u64
-}
-
-// Refusal 14.
-fn low_cutoff(repetition: u32, proportion: u32) -> bool
-    ensures { result ≡ low_cutoff repetition proportion }
-{
-    if repetition < 2 {
-        return true;
+    // Refusal 1.
+    #[tactic(auto, unfolding(crate::specs::Seat::wrong_width))]
+    fn has_wrong_width(self) -> bool
+        ensures { result ≡ wrong_width self.width }
+    {
+        self.width == 0 || self.width > 32
     }
-    proportion < 2
+
+    // Refusal 3.
+    #[tactic(auto, unfolding(crate::specs::Seat::too_wide))]
+    fn is_too_wide(self) -> bool
+        requires right_width { self.width ≤ 32 }
+        ensures { result ≡ too_wide self.width self.word }
+    {
+        u64::from(self.word) >= 1 << self.width
+    }
+
+    // Refusal 14.
+    #[tactic(auto, unfolding(crate::specs::Seat::low_cutoff))]
+    fn has_low_cutoff(self) -> bool
+        ensures { result ≡ low_cutoff self.repetition self.proportion }
+    {
+        self.repetition < 2 || self.proportion < 2
+    }
 }

@@ -1,6 +1,6 @@
--- The proof files by what they serve. The proof of a function is in the folder of its source file, as parse/tab_at/Answers.antt.
+-- The proof files by what they serve. No function needs a proof file of its own.
 
 -- the promise `replies_are_the_standard's` of docs/PROMISES.md
 pub mod Promise
--- reading a line: `tab_at` and `read_line`
-mod Tabs
+-- what a line means (`read_line`)
+mod Lines

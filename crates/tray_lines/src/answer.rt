@@ -1,102 +1,55 @@
-// Answering a line. The seat's record is tested by value, and the tray is returned.
+// Answering a line.
 
-ghost use Rattle.std.specs.Prelude.{◌≡◌, length};
-ghost use Rattle.tray.specs.Tray.{Sampled};
+ghost use Rattle.std.specs.Prelude.{◌≡◌};
 ghost use Rattle.tray_lines.specs.Reply.{fields_of, fields_on, tray_on};
 
 use crate::parse::Line;
-use tray::{Sample, Seat, Verdict};
+use std::fmt;
+use tray::{Alarms, Sample, Seat, Verdict};
 
-// The fields of a reply line after its line number.
-#[derive(Clone, Copy)]
+// The fields of a reply line after its line number. `answer` is the number that the line shows: 9, for a line that is not read, is of no `Verdict`.
+#[derive(Clone, Copy, Debug, PartialEq, Eq)]
 pub struct ReplyFields {
     pub answer: u32,
-    pub repetition: bool,
-    pub proportion: bool,
+    pub alarms: Alarms,
 }
 
-// The tray after a sample, and the verdict.
-#[derive(Clone, Copy)]
-pub struct SampleResult {
-    pub tray: [Seat; 64],
-    pub verdict: Verdict,
-}
+impl From<Verdict> for ReplyFields {
+    ghost from_gives = { λ verdict fields. fields ≡ fields_of verdict };
 
-// The tray after a line, and the fields of the reply to it.
-#[derive(Clone, Copy)]
-pub struct LineResult {
-    pub tray: [Seat; 64],
-    pub fields: ReplyFields,
-}
-
-// A sample for one seat. `tray::take_sample` does this to a lent tray. With the older kit no program could lend one, so here the array is passed in
-// and returned.
-fn sampled(tray: [Seat; 64], seat: usize, sample: Sample) -> SampleResult
-    requires { length tray ≡ 64 }
-    ensures { (length result.tray ≡ 64) × Sampled tray seat sample result.tray result.verdict }
-{
-    if seat < 64 {
-        let record = tray[seat];
-        let mut left = tray;
-        left[seat] = record.after(seat, sample);
-        return SampleResult {
-            tray: left,
-            verdict: record.verdict(seat, sample),
-        };
-    }
-    SampleResult {
-        tray,
-        verdict: tray::absent(sample),
+    fn from(verdict: Verdict) -> Self {
+        Self {
+            answer: tray::number(verdict),
+            alarms: verdict.unwrap_or_default(),
+        }
     }
 }
 
-// A line that is not two numbers is answer 9.
-pub(crate) fn answer_line(tray: [Seat; 64], line: Line, settings: Sample) -> LineResult
-    requires { length tray ≡ 64 }
-    ensures { (length result.tray ≡ 64) × (result.tray ≡ tray_on tray line settings) × (result.fields ≡ fields_on tray line settings) }
-{
-    let Line::Read(seat, word) = line else {
-        return LineResult {
-            tray,
-            fields: ReplyFields {
-                answer: 9,
-                repetition: false,
-                proportion: false,
-            },
-        };
-    };
-    let sample = Sample {
-        width: settings.width,
-        word,
-        repetition: settings.repetition,
-        proportion: settings.proportion,
-    };
-    let result = sampled(tray, seat as usize, sample);
-    let left = result.tray;
-    let verdict = result.verdict;
-    LineResult {
-        tray: left,
-        fields: fields_of(verdict),
+// The answer number, the repetition alarm and the proportion alarm, separated by tabs.
+impl fmt::Display for ReplyFields {
+    fn fmt<W: fmt::Write>(&self, f: &mut fmt::Formatter<W>) -> fmt::Result {
+        write!(
+            f,
+            "{}\t{}\t{}",
+            self.answer,
+            u8::from(self.alarms.repetition),
+            u8::from(self.alarms.proportion)
+        )
     }
 }
 
-fn fields_of(verdict: Verdict) -> ReplyFields
-    ensures { result ≡ fields_of verdict }
+// A line that is not read is answer 9.
+pub(crate) fn answer_line(tray: &mut [Seat], line: Option<Line>, settings: Sample) -> ReplyFields
+    ensures leaves { tray.new ≡ tray_on tray.old line settings }
+    ensures answers { result ≡ fields_on tray.old line settings }
 {
-    let answer = verdict.number();
-    match verdict {
-        Verdict::Counted {
-            repetition,
-            proportion,
-        } => ReplyFields {
-            answer,
-            repetition,
-            proportion,
-        },
-        _ => ReplyFields {
-            answer,
-            repetition: false,
-            proportion: false,
+    match line {
+        Some(Line { seat, word }) => {
+            tray::take_sample(tray, seat as usize, Sample { word, ..settings }).into()
+        }
+        None => ReplyFields {
+            answer: 9,
+            alarms: Alarms::default(),
         },
     }
 }

@@ -1,7 +1,0 @@
--- Every byte lies in the buffer.
-use native.Mathlib.Omega.{arith}
-use lib.ListN.{length-set}
-use Rattle.tray_lines.proofs.put.put_alarm.Goals as goal
-
-pub bounds-out-at-2 : goal.bounds-out-at-2
-bounds-out-at-2 c = simp length-set (omega arith)
