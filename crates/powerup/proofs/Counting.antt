@@ -1,22 +1,22 @@
 -- The loop's invariant, `Counting`: it holds at the start (`none_read`), one more half-byte keeps it (`step`), and at the end it gives the tally
 -- (`all_read`). `all` are the bits of the block, `rest` the bits not yet read. Assumes nothing.
 use mathlib.Core.Path.{◌≡◌, refl, ap, ◌∙◌}
-use mathlib.Core.Bool.{Bool, true, false, ◌&&◌}
+use mathlib.Core.Bool.{true, false}
 use mathlib.Core.List.{List, [], ◌∷◌, ◌++◌}
 use mathlib.Core.Logic.{⊎_elim}
 use Prim.Native.Nat.{ℕ, zero, suc, ◌+◌, ◌*◌, ◌/◌, ◌%◌, ◌≤◌, ◌<◌, max}
 use native.Mathlib.Omega.{arith}
-use native.Mathlib.Nat.{add-mul-mod_self_right}
 use native.Mathlib.Numerals.{add-one}
-use borrow.Author.Tests.{eqb-true, ne_eqb}
 use lib.Dec.{eqb}
 use lib.ListN.{length, get_or, drop, replicate}
 use lib.Seq.{drop-cons}
+use Rattle.std.proofs.lemmas.Bool.Decides.{nat_tests}
+use Rattle.std.proofs.lemmas.List.FromFn.{fill_by_all}
 use Rattle.powerup.specs.declared.count.LastRun.{LastRun}
 use Rattle.powerup.specs.Bits.{byte_bits, bits}
 use Rattle.powerup.specs.Counts.{run, occurrences, half_bytes, runs_from, runs, is_of, how_many, longest}
-use Rattle.powerup.specs.Steps.{Few, raised, place, pair, leads, lasts, insides, stepped, half_bits, pairs_from, pairs_of, inner_runs, total, Tallied, Ready}
-use Rattle.powerup.proofs.Lists.{either, each, raised_length, raised_other, raised_few, many_cons, many_append, many_most, ended_raised, met_raised, longest_three, numbers_32, written}
+use Rattle.powerup.specs.Steps.{Few, raised, place, pair, lead_at, longest_at, lasts, stepped, closed, half_bits, pairs_from, pairs_of, inner_runs, total, Tallied, Ready}
+use Rattle.powerup.proofs.Lists.{either, raised_length, raised_few, many_cons, many_append, many_most, ended_raised, met_raised, longest_three}
 use Rattle.powerup.proofs.Shapes.{inside, no_inner, ends, shape}
 
 -- the number of runs of one kind inside a pair's half-byte
@@ -40,12 +40,9 @@ pub record Counting (all rest : List ℕ) (n : ℕ) (pairs ended : List ℕ) (o 
   pub long : max o.longest (longest (runs_from o.bit o.length rest)) ≡ longest (runs_from 0 0 all)
 
 -- A half-byte is the number that its four bits spell.
-whole : (v : ℕ) → v < 16 → 8 * (v / 8 % 2) + 4 * (v / 4 % 2) + 2 * (v / 2 % 2) + v % 2 ≡ v
-whole = each (λ v. 8 * (v / 8 % 2) + 4 * (v / 4 % 2) + 2 * (v / 2 % 2) + v % 2 ≡ v) 16 (omega arith)
-
-pub half_of : (v : ℕ) (rest : List ℕ) → v < 16 → half_bytes (half_bits v ++ rest) ≡ v ∷ half_bytes rest
+half_of : (v : ℕ) (rest : List ℕ) → v < 16 → half_bytes (half_bits v ++ rest) ≡ v ∷ half_bytes rest
 unfolding half_bytes
-half_of v rest h = rw (whole v h)
+half_of v rest h = grind arith
 
 module _ {all rest : List ℕ} {n : ℕ} {pairs ended : List ℕ} {o : LastRun} (v : ℕ) (hv : v < 16)
     (c : Counting all (half_bits v ++ rest) n pairs ended o) where
@@ -56,23 +53,22 @@ module _ {all rest : List ℕ} {n : ℕ} {pairs ended : List ℕ} {o : LastRun} 
       met_raised pairs (pairs_from (v % 2) (half_bytes rest)) (pair o.bit v) p h ∙ (rw (half_of v rest hv) at (c.paired p))
 
   abbrev lead : ℕ
-  lead = get_or leads (pair o.bit v) 0
+  lead = lead_at (pair o.bit v)
 
   -- The run goes on through the half-byte.
   module _ (t : eqb lead 4 ≡ true) where
-    goes_on : Counting all rest (suc n) (raised pairs (pair o.bit v)) (raised ended (place o.bit 0)) (record { bit = v % 2; length = o.length + 4; longest = o.longest })
+    goes_on : Counting all rest (suc n) (raised pairs (pair o.bit v)) ended (record { bit = v % 2; length = o.length + 4; longest = o.longest })
     unfolding pairs_from total
     goes_on =
         let h : pair o.bit v < length pairs = omega (arith, c.bit, c.pairs_size) in
-        let h2 : place o.bit 0 < length ended = omega (arith, c.bit, c.ended_size) in
         let e : runs_from o.bit o.length (half_bits v ++ rest) ≡ runs_from (v % 2) (o.length + 4) rest = rw t at (shape o.bit v c.bit hv o.length rest) in
         record {
           bit = omega arith;
           pairs_size = rw raised_length c.pairs_size;
-          ended_size = rw raised_length c.ended_size;
+          ended_size = c.ended_size;
           short = omega (arith, c.short);
           few_pairs = raised_few pairs (pair o.bit v) n h c.few_pairs;
-          few_ended = raised_few ended (place o.bit 0) n h2 c.few_ended;
+          few_ended = λ i. omega (arith, c.few_ended i);
           paired = still_paired;
           counted = λ b k hb some most.
               let q = rw (e, half_of v rest hv) at (c.counted b k hb some most) in
@@ -81,7 +77,6 @@ module _ {all rest : List ℕ} {n : ℕ} {pairs ended : List ℕ} {o : LastRun} 
                 q,
                 many_most b k (inner_runs (pair o.bit v)),
                 no_inner (pair o.bit v) (omega (arith, c.bit)) t,
-                raised_other ended (place o.bit 0) (place b k) (λ z. omega arith),
               );
           long = rw e at c.long;
         }
@@ -90,7 +85,7 @@ module _ {all rest : List ℕ} {n : ℕ} {pairs ended : List ℕ} {o : LastRun} 
   module _ (f : eqb lead 4 ≡ false) where
     ends_run :
         Counting all rest (suc n) (raised pairs (pair o.bit v)) (raised ended (place o.bit (o.length + lead)))
-        (record { bit = v % 2; length = get_or lasts v 0; longest = max (max o.longest (o.length + lead)) (get_or insides (pair o.bit v) 0) })
+        (record { bit = v % 2; length = get_or lasts v 0; longest = max (longest_at (pair o.bit v)) (max (o.length + lead) o.longest) })
     unfolding pairs_from total
     ends_run =
         let h : pair o.bit v < length pairs = omega (arith, c.bit, c.pairs_size) in
@@ -114,14 +109,14 @@ module _ {all rest : List ℕ} {n : ℕ} {pairs ended : List ℕ} {o : LastRun} 
                 ended_raised ended c.ended_size o.bit (o.length + lead) b k c.bit hb some most,
               );
           long =
-              longest_three o.longest o.bit (o.length + lead) (get_or insides (pair o.bit v) 0) (inner_runs (pair o.bit v)) (runs_from (v % 2) (get_or lasts v 0) rest) (inside (pair o.bit v) (omega (arith, c.bit)))
+              longest_three o.longest o.bit (o.length + lead) (longest_at (pair o.bit v)) (inner_runs (pair o.bit v)) (runs_from (v % 2) (get_or lasts v 0) rest) (inside (pair o.bit v) (omega (arith, c.bit)))
               ∙ (rw e at c.long);
         }
 
   -- One more half-byte keeps the invariant.
   pub step :
-      Counting all rest (suc n) (raised pairs (pair o.bit v)) (raised ended (place o.bit (stepped o v).ended)) (stepped o v).next
-  unfolding stepped
+      Counting all rest (suc n) (raised pairs (pair o.bit v)) (closed ended o.bit (stepped o v).ended) (stepped o v).next
+  unfolding stepped closed
   step = ⊎_elim (λ t. rw t (goes_on t)) (λ f. rw f (ends_run f)) (either (eqb lead 4))
 
 module _ {all rest : List ℕ} {n : ℕ} {pairs ended : List ℕ} {o : LastRun} (c : Counting all rest n pairs ended o) (few : n ≤ 5000) where
@@ -130,33 +125,13 @@ module _ {all rest : List ℕ} {n : ℕ} {pairs ended : List ℕ} {o : LastRun} 
     bit = c.bit;
     half = hv;
     short = omega (arith, c.short);
-    pairs_size = c.pairs_size;
-    ended_size = c.ended_size;
     few_pairs = λ i. omega (arith, c.few_pairs i);
     few_ended = λ i. omega (arith, c.few_ended i);
   }
 
--- The four lowest bits of a number are the bits of its remainder by 16.
-lowest : (x : ℕ) → half_bits x ≡ half_bits (x % 16)
-lowest x =
-    let l8 : x / 8 ≡ x % 16 / 8 + x / 16 * 2 = omega arith in
-    let l4 : x / 4 ≡ x % 16 / 4 + x / 16 * 2 * 2 = omega arith in
-    let l2 : x / 2 ≡ x % 16 / 2 + x / 16 * 4 * 2 = omega arith in
-    let l1 : x ≡ x % 16 + x / 16 * 8 * 2 = omega arith in
-    cc (
-      ap (λ (y : ℕ). y % 2) l8 ∙ add-mul-mod_self_right (x % 16 / 8) (x / 16) 2,
-      ap (λ (y : ℕ). y % 2) l4 ∙ add-mul-mod_self_right (x % 16 / 4) (x / 16 * 2) 2,
-      ap (λ (y : ℕ). y % 2) l2 ∙ add-mul-mod_self_right (x % 16 / 2) (x / 16 * 4) 2,
-      ap (λ (y : ℕ). y % 2) l1 ∙ add-mul-mod_self_right (x % 16) (x / 16 * 8) 2,
-    )
-
 -- A byte's bits are those of its two half-bytes.
 pub byte_halves : (b : ℕ) (rest : List ℕ) → byte_bits b ++ rest ≡ half_bits (b / 16 % 16) ++ half_bits (b % 16) ++ rest
-byte_halves b rest =
-    let h8 : b / 128 ≡ b / 16 / 8 = omega arith in
-    let h4 : b / 64 ≡ b / 16 / 4 = omega arith in
-    let h2 : b / 32 ≡ b / 16 / 2 = omega arith in
-    cc (h8, h4, h2, lowest (b / 16), lowest b)
+byte_halves b rest = grind arith
 
 -- The bits not read before byte i are the bits of its two half-bytes and of the bytes after it.
 pub bits_left :
@@ -186,25 +161,16 @@ none_read all = record {
   long = omega arith;
 }
 
-and_false : (x y : Bool) → y ≡ false → x && y ≡ false
-and_false true y h = h
-and_false false y h = refl
-
-no_kind : (b k : ℕ) → 0 < k → is_of b k (run 0 0) ≡ false
-unfolding is_of
-no_kind b k some = and_false (eqb 0 b) (eqb 0 k) (ne_eqb 0 k (λ e. omega arith))
-
 -- A run of length 0 before the first run changes no count and not the longest run.
 from_start : (b k : ℕ) (bs : List ℕ) → 0 < k → how_many b k (runs_from 0 0 bs) ≡ how_many b k (runs bs)
-unfolding runs_from runs how_many
-from_start b k [] some = rw (no_kind b k some)
-from_start b k (c ∷ cs) some =
-    ⊎_elim (λ t. rw (t, eqb-true c 0 t)) (λ f. rw f (rw (no_kind b k some))) (either (eqb c 0))
+unfolding runs_from runs how_many is_of
+from_start b k [] some = grind (arith, nat_tests)
+from_start b k (c ∷ cs) some = grind (arith, nat_tests)
 
 longest_from_start : (bs : List ℕ) → longest (runs_from 0 0 bs) ≡ longest (runs bs)
 unfolding runs_from runs longest
 longest_from_start [] = refl
-longest_from_start (c ∷ cs) = ⊎_elim (λ t. rw (t, eqb-true c 0 t)) (λ f. rw f (omega arith)) (either (eqb c 0))
+longest_from_start (c ∷ cs) = grind (arith, nat_tests)
 
 -- When no bit is left and the last run is counted, the tally is right.
 module _ {all : List ℕ} {n : ℕ} {pairs ended : List ℕ} {o : LastRun} (c : Counting all [] n pairs ended o) (few : n ≤ 5000) where
@@ -215,7 +181,7 @@ module _ {all : List ℕ} {n : ℕ} {pairs ended : List ℕ} {o : LastRun} (c : 
   all_read =
       let h : place o.bit o.length < length ended = omega (arith, c.bit, c.ended_size) in
       record {
-        pairs = written numbers_32 (λ p. occurrences p (pairs_of all)) pairs c.pairs_size (λ p _. omega (arith, c.paired p));
+        pairs = fill_by_all (λ p. occurrences p (pairs_of all)) pairs 32 0 c.pairs_size (λ p _. omega (arith, c.paired p));
         ended = λ b k hb some most.
             omega (
               arith,

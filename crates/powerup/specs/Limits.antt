@@ -1,8 +1,12 @@
 -- The numbers of the two editions. They differ in nothing else. Document 02 §9: "from FIPS 140-1 and from FIPS 140-2 before its Change Notice 2; the
 -- numbers here decide."
-use Rattle.std.specs.Prelude.{ℕ, [], ◌∷◌}
+use Rattle.std.specs.Prelude.{ℕ, [], ◌∷◌, cond, eqb, Result, Ok, Err}
 use Rattle.powerup.specs.declared.Interval.{Interval}
 use Rattle.powerup.specs.declared.Limits.{Limits}
+use Rattle.powerup.specs.declared.Refusal.{Refusal}
+use Rattle.powerup.specs.declared.Refusal.TheVariants.{WrongEdition}
+use Rattle.powerup.specs.declared.editions.Edition.{Edition}
+use Rattle.powerup.specs.declared.editions.Edition.TheVariants.{First, Second}
 
 abbrev pub ◌to◌ : ℕ → ℕ → Interval
 l to h = record { low = l; high = h }
@@ -28,3 +32,11 @@ second_edition = record {
   runs = (2315 to 2685) ∷ (1114 to 1386) ∷ (527 to 723) ∷ (240 to 384) ∷ (103 to 209) ∷ (103 to 209) ∷ [];
   long = 26;
 }
+
+-- the edition that a number names
+abbrev pub edition_of : ℕ → Result Edition Refusal
+edition_of n = cond (eqb n 1) (Ok First) (cond (eqb n 2) (Ok Second) (Err WrongEdition))
+
+abbrev pub limits_of : Edition → Limits
+limits_of First = first_edition
+limits_of Second = second_edition

@@ -1,8 +1,10 @@
 -- How the code counts: a half-byte at a time. These definitions serve the contracts of private functions; the promise does not rest on them.
-use Rattle.std.specs.Prelude.{ℕ, ◌+◌, ◌*◌, ◌/◌, ◌%◌, ◌^◌, ◌≤◌, ◌<◌, min, max, ◌≡◌, cond, List, [], ◌∷◌, map, eqb, length, get_or, set, drop}
+use Rattle.std.specs.Prelude.{ℕ, Option, None, Some, ◌+◌, ◌*◌, ◌/◌, ◌%◌, ◌≤◌, ◌<◌, min, max, ◌≡◌, cond, List, [], ◌∷◌, map, eqb, length, get_or, set, drop, sum_by}
+use Rattle.std.specs.List.{zip}
 use Rattle.powerup.specs.declared.count.LastRun.{LastRun}
 use Rattle.powerup.specs.declared.count.Step.{Step}
 use Rattle.powerup.specs.declared.count.Tally.{Tally}
+use Rattle.powerup.specs.declared.tables.Start.{Start}
 use Rattle.powerup.specs.declared.Counts.{Counts}
 use Rattle.powerup.specs.Counts.{Run, occurrences, sum_of_squares, sixteen, half_bytes, runs_from, runs, how_many, longest}
 
@@ -14,7 +16,8 @@ Few l n = (i : ℕ) → get_or l i 0 ≤ n
 unfoldable pub raised : List ℕ → ℕ → List ℕ
 raised l i = set l i (get_or l i 0 + 1)
 
--- the place of a run in the table of ended runs. Runs of length 0 have places too, which are never read.
+-- the place of a run in the table of ended runs. Each bit has seven places: for the lengths 0 to 5, and for 6 or more. No run is empty, and no count
+-- reads a place for length 0: one is there for the empty run that the loop begins with.
 abbrev pub place : ℕ → ℕ → ℕ
 place b n = 7 * b + min n 6
 
@@ -22,34 +25,46 @@ place b n = 7 * b + min n 6
 abbrev pub pair : ℕ → ℕ → ℕ
 pair b half = 16 * b + half
 
--- The code's tables. At each pair: how many of the half-byte's first bits equal the bit before it (`leads`); the longest run that follows them and
--- ends inside the half-byte (`insides`). At each half-byte: the length of its last run (`lasts`).
-abbrev pub leads : List ℕ
-leads =
-    4 ∷ 3 ∷ 2 ∷ 2 ∷ 1 ∷ 1 ∷ 1 ∷ 1 ∷ 0 ∷ 0 ∷ 0 ∷ 0 ∷ 0 ∷ 0 ∷ 0 ∷ 0
-    ∷ 0 ∷ 0 ∷ 0 ∷ 0 ∷ 0 ∷ 0 ∷ 0 ∷ 0 ∷ 1 ∷ 1 ∷ 1 ∷ 1 ∷ 2 ∷ 2 ∷ 3 ∷ 4 ∷ []
+-- an entry of the code's table `starts`
+abbrev pub start : ℕ → ℕ → Start
+start l i = record { lead = l; inside = i }
 
-abbrev pub insides : List ℕ
-insides =
-    0 ∷ 0 ∷ 1 ∷ 0 ∷ 1 ∷ 1 ∷ 2 ∷ 0 ∷ 1 ∷ 2 ∷ 1 ∷ 1 ∷ 2 ∷ 2 ∷ 3 ∷ 0
-    ∷ 0 ∷ 3 ∷ 2 ∷ 2 ∷ 1 ∷ 1 ∷ 2 ∷ 1 ∷ 0 ∷ 2 ∷ 1 ∷ 1 ∷ 0 ∷ 1 ∷ 0 ∷ 0 ∷ []
+-- The code's tables. At each pair: how many of the half-byte's first bits equal the bit before it, and the longest run that follows them and ends
+-- inside the half-byte (`starts`; 0 if there is none). At each half-byte: the length of its last run (`lasts`).
+abbrev pub starts : List Start
+starts =
+    start 4 0 ∷ start 3 0 ∷ start 2 1 ∷ start 2 0 ∷ start 1 1 ∷ start 1 1 ∷ start 1 2 ∷ start 1 0
+    ∷ start 0 1 ∷ start 0 2 ∷ start 0 1 ∷ start 0 1 ∷ start 0 2 ∷ start 0 2 ∷ start 0 3 ∷ start 0 0
+    ∷ start 0 0 ∷ start 0 3 ∷ start 0 2 ∷ start 0 2 ∷ start 0 1 ∷ start 0 1 ∷ start 0 2 ∷ start 0 1
+    ∷ start 1 0 ∷ start 1 2 ∷ start 1 1 ∷ start 1 1 ∷ start 2 0 ∷ start 2 1 ∷ start 3 0 ∷ start 4 0 ∷ []
+
+abbrev pub lead_at : ℕ → ℕ
+lead_at p = (get_or starts p (start 0 0)).lead
+
+abbrev pub longest_at : ℕ → ℕ
+longest_at p = (get_or starts p (start 0 0)).inside
 
 abbrev pub lasts : List ℕ
 lasts = 4 ∷ 1 ∷ 1 ∷ 2 ∷ 2 ∷ 1 ∷ 1 ∷ 3 ∷ 3 ∷ 1 ∷ 1 ∷ 2 ∷ 2 ∷ 1 ∷ 1 ∷ 4 ∷ []
 
--- the last run after a half-byte, and the length of the run that the half-byte ended: 0 if the run goes on
+-- the last run after a half-byte, and the length of the run that the half-byte ended, if it ended one
 unfoldable pub stepped : LastRun → ℕ → Step
 stepped o half =
-    cond (eqb (get_or leads (pair o.bit half) 0) 4)
-    (record { next = record { bit = half % 2; length = o.length + 4; longest = o.longest }; ended = 0 })
+    cond (eqb (lead_at (pair o.bit half)) 4)
+    (record { next = record { bit = half % 2; length = o.length + 4; longest = o.longest }; ended = None })
     (record {
       next = record {
         bit = half % 2;
         length = get_or lasts half 0;
-        longest = max (max o.longest (o.length + get_or leads (pair o.bit half) 0)) (get_or insides (pair o.bit half) 0);
+        longest = max (longest_at (pair o.bit half)) (max (o.length + lead_at (pair o.bit half)) o.longest);
       };
-      ended = o.length + get_or leads (pair o.bit half) 0;
+      ended = Some (o.length + lead_at (pair o.bit half));
     })
+
+-- the ended runs, with one more if a run of the bit b ended
+unfoldable pub closed : List ℕ → ℕ → Option ℕ → List ℕ
+closed ended b None = ended
+closed ended b (Some n) = raised ended (place b n)
 
 -- the four bits of a half-byte
 abbrev pub half_bits : ℕ → List ℕ
@@ -96,23 +111,12 @@ pub record Ready (o : LastRun) (v : ℕ) (pairs ended : List ℕ) : Type 0 where
   pub bit : o.bit < 2
   pub half : v < 16
   pub short : o.length ≤ 100000
-  pub pairs_size : length pairs ≡ 32
-  pub ended_size : length ended ≡ 14
   pub few_pairs : Few pairs 100000
   pub few_ended : Few ended 100000
 
--- numbers and weights whose sum of products fits
-pub record Light (xs ws : List ℕ) : Type 0 where
-  pub same : length xs ≡ length ws
-  pub most : length xs ≤ 32
-  pub few : Few xs 10000
-  pub light : Few ws 10000
-
 -- the sum of numbers, each times its weight
 unfoldable pub dot : List ℕ → List ℕ → ℕ
-dot [] ws = 0
-dot (x ∷ xs) [] = 0
-dot (x ∷ xs) (w ∷ ws) = x * w + dot xs ws
+dot xs ws = sum_by (λ p. p.0 * p.1) (zip xs ws)
 
 -- how often each half-byte occurs: after a zero and after a one together
 unfoldable pub poker_of : List ℕ → List ℕ
@@ -129,13 +133,6 @@ by_length ended first x y z =
     ∷ get_or ended (first + 6) 0
     ∷ []
 
--- what `by_length` requires: its places are in the table, and its sums fit
-pub record Room (ended : List ℕ) (first x y z : ℕ) : Type 0 where
-  pub places : first ≤ 7
-  pub one : get_or ended (first + 1) 0 + x < 2 ^ 32
-  pub two : get_or ended (first + 2) 0 + y < 2 ^ 32
-  pub three : get_or ended (first + 3) 0 + z < 2 ^ 32
-
 -- At each pair: the ones of the half-byte; the runs of the bit b and the length k inside it.
 unfoldable pub ones_at : List ℕ
 ones_at = map (λ p. occurrences 1 (half_bits (p % 16))) thirty_two
@@ -143,11 +140,9 @@ ones_at = map (λ p. occurrences 1 (half_bits (p % 16))) thirty_two
 unfoldable pub inside_at : ℕ → ℕ → List ℕ
 inside_at b k = map (λ p. how_many b k (inner_runs p)) thirty_two
 
--- weights that count the runs of the bit b inside a half-byte: those of length 1, of 2 and of 3
-pub record Insides (b : ℕ) (singles doubles triples : List ℕ) : Type 0 where
-  pub one : singles ≡ inside_at b 1
-  pub two : doubles ≡ inside_at b 2
-  pub three : triples ≡ inside_at b 3
+-- the runs of the bit b inside a half-byte, by length
+abbrev pub tables_of : ℕ → List (List ℕ)
+tables_of b = inside_at b 1 ∷ inside_at b 2 ∷ inside_at b 3 ∷ []
 
 -- the runs of one bit in a tally
 unfoldable pub runs_in : ℕ → Tally → List ℕ

@@ -1,7 +1,42 @@
-// The limits of the two editions.
-use crate::{Interval, Limits};
+// The two editions and their limits.
+ghost use Rattle.std.specs.Prelude.{◌≡◌};
+ghost use Rattle.powerup.specs.Limits.{edition_of, limits_of};
 
-pub(crate) const FIRST: Limits = Limits {
+use crate::{Interval, Limits, Refusal};
+
+#[derive(Clone, Copy)]
+pub(crate) enum Edition {
+    First,
+    Second,
+}
+
+impl TryFrom<u32> for Edition {
+    type Error = Refusal;
+
+    ghost try_from_gives = { λ number r. r ≡ edition_of number };
+
+    fn try_from(number: u32) -> Result<Edition, Refusal> {
+        match number {
+            1 => Ok(Edition::First),
+            2 => Ok(Edition::Second),
+            _ => Err(Refusal::WrongEdition),
+        }
+    }
+}
+
+impl Edition {
+    #[tactic(auto, unfolding(crate::specs::Limits::first_edition, crate::specs::Limits::second_edition))]
+    pub(crate) fn limits(self) -> Limits
+        ensures { result ≡ limits_of self }
+    {
+        match self {
+            Edition::First => FIRST,
+            Edition::Second => SECOND,
+        }
+    }
+}
+
+const FIRST: Limits = Limits {
     ones: Interval {
         low: 9654,
         high: 10346,
@@ -33,7 +68,7 @@ pub(crate) const FIRST: Limits = Limits {
     long: 34,
 };
 
-pub(crate) const SECOND: Limits = Limits {
+const SECOND: Limits = Limits {
     ones: Interval {
         low: 9725,
         high: 10275,

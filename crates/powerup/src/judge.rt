@@ -3,54 +3,50 @@ ghost use Rattle.std.specs.Prelude.{◌≡◌};
 ghost use Rattle.powerup.specs.Reply.{judged};
 ghost use Rattle.powerup.specs.Verdicts.{between, within, all_within, verdicts_of};
 
-use crate::{Answer, Counts, Interval, Limits, Reply, Verdicts};
+use crate::{Counts, Interval, Limits, Report, Verdicts};
 
-pub(crate) fn judge(limits: Limits, counts: Counts) -> Reply
+#[tactic(auto, unfolding(crate::specs::Reply::judged))]
+pub(crate) fn judge(limits: Limits, counts: Counts) -> Report
     ensures { result ≡ judged limits counts }
 {
-    Reply {
-        answer: Answer::Done,
+    Report {
         counts,
         verdicts: verdicts(limits, counts),
     }
 }
 
+#[tactic(auto, unfolding(crate::specs::Verdicts::verdicts_of))]
 fn verdicts(limits: Limits, counts: Counts) -> Verdicts
     ensures { result ≡ verdicts_of limits counts }
 {
-    let runs = counts.runs;
-    let zeros = runs.zeros;
-    let ones = runs.ones;
-    let intervals = limits.runs;
     Verdicts {
         monobit: between(limits.ones, counts.ones),
         poker: within(limits.poker, counts.sum),
-        runs: all_within(intervals, zeros) && all_within(intervals, ones),
-        long: runs.longest < limits.long,
+        runs: all_within(&limits.runs, &counts.runs.zeros)
+            && all_within(&limits.runs, &counts.runs.ones),
+        long: counts.runs.longest < limits.long,
     }
 }
 
+#[tactic(auto, unfolding(crate::specs::Verdicts::between))]
 fn between(interval: Interval, n: u32) -> bool
     ensures { result ≡ between interval n }
 {
     interval.low < n && n < interval.high
 }
 
+#[tactic(auto, unfolding(crate::specs::Verdicts::within))]
 fn within(interval: Interval, n: u32) -> bool
     ensures { result ≡ within interval n }
 {
     interval.low <= n && n <= interval.high
 }
 
-fn all_within(intervals: [Interval; 6], counts: [u32; 6]) -> bool
-    ensures { result ≡ all_within intervals counts }
+fn all_within(intervals: &[Interval; 6], counts: &[u32; 6]) -> bool
+    ensures { result ≡ all_within intervals.now counts.now }
 {
-    let mut i: usize = 0;
-    while i < 6 {
-        if !within(intervals[i], counts[i]) {
-            return false;
-        }
-        i += 1;
-    }
-    true
+    intervals
+        .iter()
+        .zip(counts)
+        .all(|(interval, n)| within(*interval, *n))
 }

@@ -2,34 +2,50 @@
 
 use std::rt::Env;
 
-// The edition that the arguments name, 1 or 2; 0 if they name neither.
-pub(crate) fn edition<R: Env>(rt: &R) -> u32 {
-    let first = digit(rt, 1);
-    if first != 0 { first } else { digit(rt, 2) }
+#[derive(Clone, Copy)]
+pub(crate) struct Arguments {
+    // 1 or 2, if an argument names an edition
+    pub(crate) edition: Option<u32>,
+    // whether --counts is among the arguments
+    pub(crate) counts: bool,
 }
 
-// Whether --counts is among the arguments.
-pub(crate) fn counts<R: Env>(rt: &R) -> bool {
-    is_counts(rt, 1) || is_counts(rt, 2)
+#[derive(Clone, Copy)]
+enum Argument {
+    Edition(u32),
+    Counts,
 }
 
-fn digit<R: Env>(rt: &R, i: usize) -> u32 {
-    let mut space = [0u8; 16];
-    match rt.arg(i, &mut space) {
-        Ok(1) => {}
-        _ => return 0,
+impl Arguments {
+    // Reads two arguments. If both name an edition, the first one holds.
+    pub(crate) fn read<R: Env>(rt: &R) -> Arguments {
+        let mut arguments = Arguments {
+            edition: None,
+            counts: false,
+        };
+        for i in 1..=2 {
+            match Argument::read(rt, i) {
+                Some(Argument::Edition(number)) => {
+                    arguments.edition = arguments.edition.or(Some(number));
+                }
+                Some(Argument::Counts) => arguments.counts = true,
+                None => {}
+            }
+        }
+        arguments
     }
-    match space[0] {
-        b'1' => 1,
-        b'2' => 2,
-        _ => 0,
-    }
 }
 
-fn is_counts<R: Env>(rt: &R, i: usize) -> bool {
-    let mut space = [0u8; 16];
-    match rt.arg(i, &mut space) {
-        Ok(n) => &space[..n] == b"--counts".as_slice(),
-        Err(_) => false,
+impl Argument {
+    fn read<R: Env>(rt: &R, i: usize) -> Option<Argument> {
+        // A buffer and a count, since that is what `arg` fills and gives.
+        let mut space = [0u8; 16];
+        let length = rt.arg(i, &mut space).ok()?;
+        match &space[..length] {
+            b"1" => Some(Argument::Edition(1)),
+            b"2" => Some(Argument::Edition(2)),
+            b"--counts" => Some(Argument::Counts),
+            _ => None,
+        }
     }
 }

@@ -5,98 +5,68 @@
 mod arguments;
 mod line;
 
-ghost use Rattle.std.specs.Prelude.{◌≤◌, length};
-
-use std::fmt::Display;
+use arguments::Arguments;
+use arrayvec::ArrayVec;
+use line::Line;
 use std::io;
 use std::io::{Eprint, Input, Print, Read, Write};
 use std::process::ExitCode;
 use std::rt::Env;
 
-// After a block: more may follow, or the input has ended.
-#[derive(Clone, Copy)]
-enum BlockResult {
-    More,
-    End,
-}
+// The bytes of a whole block.
+const BLOCK: usize = 2500;
 
 // The status is a success if the edition is 1 or 2, no read failed and every line was written.
 pub fn run<R: Env + Input + Print + Eprint>(rt: &R) -> ExitCode {
-    let edition = arguments::edition(rt);
-    let counts = arguments::counts(rt);
-    if edition == 0 {
-        say(rt, "powerup: the edition is neither 1 nor 2");
+    let arguments = Arguments::read(rt);
+    if arguments.edition.is_none() {
+        console::say(rt, "powerup: the edition is neither 1 nor 2");
     }
-    let written = blocks(&mut rt.reader(), &mut io::writer(rt), edition, counts);
-    if let Err(e) = written {
-        say(rt, format_args!("powerup: {e}"));
-        return ExitCode::FAILURE;
+    if let Err(e) = blocks(&mut rt.reader(), &mut io::writer(rt), arguments) {
+        return console::failure(rt, format_args!("powerup: {e}"));
     }
-    if edition == 0 {
-        ExitCode::FAILURE
-    } else {
-        ExitCode::SUCCESS
+    match arguments.edition {
+        Some(_) => ExitCode::SUCCESS,
+        None => ExitCode::FAILURE,
     }
-}
-
-// The status shows the failure too, so it does not matter if the message is not written.
-fn say<R: Eprint, D: Display + Drop>(rt: &R, message: D) {
-    let _ = rt.eprintln(message);
 }
 
 // Answers every block. A proved loop has to end, so this one stops at a number of blocks that no input reaches.
 fn blocks<R: Read, W: Write>(
     reader: &mut R,
     writer: &mut W,
-    edition: u32,
-    counts: bool,
+    arguments: Arguments,
 ) -> io::Result<()> {
-    let mut number: u64 = 1;
-    while number < u64::MAX {
-        match block(reader, writer, number, edition, counts)? {
-            BlockResult::More => {}
-            BlockResult::End => return Ok(()),
+    for number in 1..u64::MAX {
+        if block(reader, writer, number, arguments)? < BLOCK {
+            break;
         }
-        number += 1;
     }
     Ok(())
 }
 
-// If a read fails, the bytes before it are answered all the same, as the last block.
+// Answers a block, and returns its length. If a read fails, the bytes before it are answered all the same, as the last block.
 fn block<R: Read, W: Write>(
     reader: &mut R,
     writer: &mut W,
     number: u64,
-    edition: u32,
-    counts: bool,
-) -> io::Result<BlockResult> {
-    let mut space = [0u8; 2500];
-    let (got, read) = fill(reader, &mut space);
+    arguments: Arguments,
+) -> io::Result<usize> {
+    let mut space = [0u8; BLOCK];
+    let (got, read) = console::fill(reader, &mut space);
     if got != 0 {
-        let reply = powerup::power_up(&space[..got], edition);
-        let mut out = [0u8; 1024];
-        let n = line::put_reply(&mut out, number, reply, counts);
-        writer.write_all(&out[..n])?;
+        // 0 is no edition, so without one each whole block is refused
+        let reply = powerup::power_up(&space[..got], arguments.edition.unwrap_or(0));
+        let line = Line {
+            number,
+            reply,
+            counts: arguments.counts,
+        };
+        // the longest line has 384 bytes
+        let mut text = ArrayVec::<u8, 512>::new();
+        write!(text, "{line}")?;
+        writer.write_all(&text)?;
     }
     read?;
-    if got < 2500 {
-        Ok(BlockResult::End)
-    } else {
-        Ok(BlockResult::More)
-    }
-}
-
-// Reads until the buffer is full, the input ends or a read fails. Returns the number of bytes at the start of the buffer, and the failure.
-fn fill<R: Read>(reader: &mut R, space: &mut [u8]) -> (usize, io::Result<()>)
-    ensures { result.0 ≤ length space.new }
-{
-    let mut done: usize = 0;
-    while done < space.len() {
-        match reader.read(&mut space[done..]) {
-            Ok(0) => break,
-            Ok(n) => done += n,
-            Err(e) => return (done, Err(e)),
-        }
-    }
-    (done, Ok(()))
+    Ok(got)
 }

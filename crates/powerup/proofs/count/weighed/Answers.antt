@@ -1,34 +1,21 @@
-use native.Mathlib.Omega.{arith}
-use mathlib.Core.Path.{◌≡◌}
-use mathlib.Core.List.{[]}
-use native.Mathlib.Numerals.{add-one}
-use lib.ListN.{drop, drop_of_length-le}
+-- `powerup::count::weighed` meets its contract. Assumes nothing.
+use Rattle.std.proofs.Common.{ℕ, ◌*◌, ◌^◌, ◌<◌, refl, rules, arith}
+use Rattle.std.specs.List.{zip}
+use Rattle.std.proofs.lemmas.Iterator.{YieldsList-from_slice, YieldsList-from_zip}
+use Rattle.std.proofs.lemmas.Iterator.Adapters.{serves_from_places}
+use Rattle.std.proofs.lemmas.List.Sums.{get_or-le-sum_by}
 use Rattle.powerup.specs.Steps.{dot}
-use Rattle.powerup.proofs.Lists.{product_few, dot_next}
 use Rattle.powerup.proofs.count.weighed.Goals as goal
 
-pub overflow_mul-sum : goal.overflow_mul-sum
-overflow_mul-sum c = omega (arith, product_few c.requires c.loop-i.i)
-
-pub overflow_add-sum : goal.overflow_add-sum
-overflow_add-sum c = omega (arith, product_few c.requires c.loop-i.i)
-
-pub loop-i-preserved : goal.loop-i-preserved
-loop-i-preserved c =
-    let a = c.args in
-    let i = c.loop-i.i in
-    rw add-one
-    (omega (
-      arith,
-      product_few c.requires i,
-      dot_next a.counts.now a.weights.now i (omega arith) (omega arith),
-    ))
-
-pub returns : goal.returns
+-- Each product is at most the whole sum.
+pub sum-requires-clause-can : goal.sum-requires-clause-can
 unfolding dot
-returns c =
-    let a = c.args in
-    let i = c.loop-i.i in
-    let e : drop i a.counts.now ≡ [] = drop_of_length-le a.counts.now {i = i} (omega arith) in
-    let q = rw e at c.loop-i.invariant.2 in
-    omega (arith, q)
+sum-requires-clause-can c =
+    let pairs = zip c.args.numbers.now c.args.weights.now in (
+      (tt, tt),
+      serves_from_places (YieldsList-from_zip (YieldsList-from_slice c.args.numbers.now cc) (YieldsList-from_slice c.args.weights.now cc)) (λ x q r. refl)
+          (λ x k h e.
+          let most : x.0.now * x.1.now < 2 ^ 32 =
+          omega (arith, rw (← e) at (get_or-le-sum_by (λ (p : ℕ × ℕ). p.0 * p.1) pairs k (x.0.now, x.1.now) h)) in
+          search rules),
+    )

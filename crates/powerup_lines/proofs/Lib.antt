@@ -1,7 +1,0 @@
--- The proofs, by what they serve. Each name is a function's folder.
---
--- The loop over the blocks ends                                   blocks
--- A block is read within its buffer                               fill
--- A line is written within its buffer                             line/put, line/put_numbers
---
--- A function without a folder is proved by the checker's own search.
