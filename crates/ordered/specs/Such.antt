@@ -1,9 +1,7 @@
 -- A choice by a test, and a search in a list: the first or the last element that passes a test, if there is one.
 use Rattle.std.specs.Prelude.{Bool, true, false, if◌then◌else◌, List, [], ◌∷◌}
-
-pub data Perhaps (A : Type 0) : Type 0 where
-  no_such : Perhaps A
-  such : A → Perhaps A
+-- std's `Option`, by the words of the rules
+pub use Rattle.std.specs.Prelude.{Option as Perhaps, None as no_such, Some as such}
 
 module _ {A : Type 0} where
   -- the first if it is there, else the second

@@ -1,85 +1,70 @@
 -- The outcome of `add`, from the walk of the word's way and the walk that continues it along the push.
-use Prim.Native.Nat.{ℕ, suc, ◌+◌, ◌-◌, ◌%◌, ◌≤◌, ◌<◌}
+use Prim.Native.Nat.{ℕ, suc, ◌+◌, ◌-◌, ◌≤◌, ◌<◌}
 use mathlib.Core.Path.{◌≡◌, refl, sym, ap, ◌∙◌, subst}
 use mathlib.Core.Bool.{Bool, true, false, true≢false}
 use mathlib.Core.List.{List, ◌++◌}
-use native.Mathlib.Nat.{add-zero, lt_of_lt_of_le}
+use native.Mathlib.Nat.{add-zero, le_refl}
 use native.Mathlib.Omega.{arith}
 use lib.Dec.{ltb, eqb}
 use lib.ListN.{length}
-use lib.Pow.{shl-shr}
-use borrow.Author.Tests.{lt-ltb, eqb-true, eq-eqb, ne_eqb}
-use Rattle.std.specs.Prelude.{if◌then◌else◌}
-use Rattle.ordered.specs.Such.{is_there, such, no_such, last_such, anything}
-use Rattle.ordered.specs.Word.{Side, side_of}
+use borrow.Author.Tests.{eqb-true, eq-eqb, ne_eqb}
+use Rattle.std.specs.Prelude.{Option, if◌then◌else◌, Ok, Some, None}
+use Rattle.ordered.specs.Such.{is_there, such, no_such, anything}
 use Rattle.ordered.specs.Tree.{Tree, none, damaged}
 use Rattle.ordered.specs.Way.{Way, way, joined, broken, is_damaged, end_rows, pushing}
 use Rattle.ordered.specs.Way as Ways
 use Rattle.ordered.specs.Change.{way_ends_at, adding, adding_by}
-use Rattle.ordered.proofs.Parts.{All, none_all, all_append, IfSuch, last_such_one}
+use Rattle.ordered.proofs.Parts.{All, none_all, all_append, last_such_one}
 use Rattle.ordered.specs.Reading.{Found}
 use Rattle.pretree.specs.declared.Header.{Header}
 use Rattle.pretree.specs.declared.Entry.{Entry}
 use Rattle.pretree.specs.declared.Row as Rows
+use Rattle.pretree.specs.declared.Answer.{Answer}
 use Rattle.pretree.specs.declared.Answer.TheVariants.{Done, Full, AlreadyThere}
 use Rattle.pretree.specs.declared.Answer.TheVariants as Answers
-use Rattle.pretree.specs.declared.leg.End.TheVariants.{None, Row, Damage}
 use Rattle.pretree.specs.declared.leg.Leg.{Leg}
 use Rattle.pretree.specs.declared.seek.Seek.{Seek}
 use Rattle.pretree.specs.Table.{from_code, capacity, row_at, with_serial, with_row, hooked}
+use Rattle.pretree.specs.declared.leg.Hook.{Hook}
 use Rattle.pretree.specs.Unfold.{shown}
 use Rattle.pretree.specs.Reply.{wrong_header, too_wide, refused, answered}
-use Rattle.pretree.specs.Walk.{Walk, Stage, On, AtNone, AtRow, AtDamage, started, is_on, end_read, rows_read_by, ended, tree_at, to_come, step_at, remembered, seeking, Ahead, Placed, OnWay, Walked}
+use Rattle.pretree.specs.Walk.{Walk, Stage, On, AtNone, AtRow, AtDamage, is_on, end_read, rows_read_by, ended, tree_at, to_come, step_at, seeking, Ahead, Placed, OnWay, Walked}
 use Rattle.pretree.specs.Resume.{is_damage, ends_at, again, resumed}
-use Rattle.pretree.specs.Leg.{root_place, OnLeg, StaysOnWay}
-use Rattle.pretree.specs.Seek.{row_of, above_of, bits_left_by, place_of, SeekEnds}
-use Rattle.pretree.specs.Add.{taking, hooking, grown, add_outcome}
-use Rattle.pretree.specs.Push.{takes_from, left_from, end_bits, end_side, grown_at, Growable, grown_outcome, Displaces}
+use Rattle.pretree.specs.Leg.{OnLeg, StaysOnWay, damage}
+use Rattle.pretree.specs.Seek.{row_of, bits_left_by, place_of, leg_of, SeekEnds, Refused, by_header, by_word, by_damage}
+use Rattle.pretree.specs.Add.{taking, grown, add_outcome}
+use Rattle.pretree.specs.Push.{takes_from, left_from, end_bits, hook_of, grown_at, Growable, grown_outcome, Displaces}
 use Rattle.pretree.proofs.Rows.{own_key}
 use Rattle.pretree.proofs.Checks.{right_header}
-use Rattle.pretree.proofs.Walking.{at_none, at_damage, begins_root}
+use Rattle.pretree.proofs.Walking.{at_none, at_damage}
 use Rattle.pretree.proofs.SeekTurn.{following_is}
 use Rattle.pretree.proofs.Sought as Sought
-use Rattle.pretree.proofs.Places.{bits_there, root_stands}
+use Rattle.pretree.proofs.Places.{bits_there}
+use Rattle.pretree.proofs.Hooks.{hook_at, hook_is, hook_by, hook_in_table_by}
 use Rattle.pretree.proofs.Ended.{end_part, way_end, way_rows}
 use Rattle.pretree.proofs.Resuming.{resumes, WholeWayEnd, whole_way_end, rows_used, shown_used}
 use Rattle.pretree.proofs.Pushing.{rises_within, Pushed, none_pushed, is_pushed, no_end_row}
 
--- a link at the step that a walk remembers is a link at that row, if there is one
-pub hooks : (rows : ℕ → Rows.Row) (n m above i : ℕ) (s : Side) (table : List ℕ) (b : Bool)
-    → hooking (remembered rows n b m above s) i table ≡ hooked b above s i table
-unfolding step_at
-hooks rows n m above i s table true = refl
-hooks rows n m above i s table false = refl
-
--- the bits and the side at the end of a leg are those of the walk that goes with it
-module _ (count : ℕ) (l : Leg) (p : Walk) (on : OnLeg count l p) where
-  end_bits_are : end_bits l ≡ p.bits
-  end_bits_are = bits_there l.at p on.stands
-
-  end_side_is : end_side l ≡ side_of (p.path % 2)
-  end_side_is = rw (end_bits_are, on.stands.path, shl-shr p.path p.bits)
-
 -- an absent word: the writes one after the other, and the outcome
-module _ (h : Header) (table : List ℕ) (e : Entry) (from bits end above : ℕ) (s : Side) where
+module _ (h : Header) (table : List ℕ) (e : Entry) (from bits end : ℕ) (k : Option Hook) where
   pub writes_grow : {entry : Entry} {pushed linked after : List ℕ}
       → entry ≡ left_from (row_at table) end (bits - end) from e
       → pushed ≡ taking (takes_from (row_at table) end (bits - end) from e) table
-      → linked ≡ hooked (ltb end h.width) above s h.count pushed
+      → linked ≡ hooked k h.count pushed
       → after ≡ with_row h.count (record { entry = entry; left = 0; right = 0 }) linked
-      → after ≡ grown_at h table e from bits end above s
+      → after ≡ grown_at h table e from bits end k
   unfolding grown_at
   writes_grow x t l a = rw (a, l, t, x)
 
-  pub on_full : h.count ≡ capacity table → grown_outcome h table e from bits end above s ≡ record { reply = refused h Full; table = table }
+  pub on_full : h.count ≡ capacity table → grown_outcome h table e from bits end k ≡ record { reply = refused h Full; table = table }
   unfolding grown_outcome
   on_full full = rw (eq-eqb _ _ full)
 
   pub on_done : (h.count ≡ capacity table → ⊥)
-      → grown_outcome h table e from bits end above s
+      → grown_outcome h table e from bits end k
       ≡ record {
         reply = answered (record { width = h.width; count = suc h.count }) Done (h.width - end);
-        table = grown_at h table e from bits end above s;
+        table = grown_at h table e from bits end k;
       }
   unfolding grown_outcome
   on_done room = rw (ne_eqb _ _ room)
@@ -198,7 +183,7 @@ module _ (h : Header) (table : List ℕ) (e : Entry) (w : Walk) (fine : wrong_he
     passed_is : length push.passed ≡ w.bits - p.bits
     passed_is = omega (arith, known.by_numbers.number, end_is)
 
-    grows : Growable h table w.row w.bits p.bits p.above
+    grows : Growable h table w.row w.bits p.bits (hook_at p h.width)
     unfolding joined step_at
     grows =
         let right = right_header h table fine in
@@ -208,16 +193,15 @@ module _ (h : Header) (table : List ℕ) (e : Entry) (w : Walk) (fine : wrong_he
           rising =
               rises_within rows w.count (capacity table) p.bits (w.bits - p.bits) w.row w.low in_table
               (rw (end_is, passed_is) at known.by_numbers.rising);
-          above_used =
-              λ some.
+          hook_in_table =
               let all : All (λ s. s.at < h.count) (first.passed ++ push.passed)
               = all_append (shown_used (seeking k k) h table) (rw gone.walking.same_count at known.used) in
-              let last : IfSuch (λ s. s.at < h.count) (last_such anything (first.passed ++ push.passed)) = last_such_one anything all in
-              lt_of_lt_of_le (rw (whole_end.above, lt-ltb p.bits h.width some) at last) right.has_room;
+              hook_in_table_by rows p.count (capacity table) p.bits p.above p.path (rw on_way.same_count right.has_room) (ltb p.bits h.width) _ whole_end.above
+              (rw on_way.same_count (last_such_one anything all));
         }
 
     grown_is : grown h.count (adding_by (from_code e) first push whole false) table
-        ≡ grown_at h table e w.row w.bits p.bits p.above (side_of (p.path % 2))
+        ≡ grown_at h table e w.row w.bits p.bits (hook_at p h.width)
     unfolding grown grown_at joined
     grown_is =
         rw (
@@ -225,8 +209,7 @@ module _ (h : Header) (table : List ℕ) (e : Entry) (w : Walk) (fine : wrong_he
           known.by_numbers.left_entry e,
           end_is,
           passed_is,
-          whole_end.above,
-          hooks rows p.count p.bits p.above h.count (side_of (p.path % 2)) _ (ltb p.bits h.width),
+          hook_by rows p.count p.count p.bits p.above p.path (le_refl _) (ltb p.bits h.width) _ whole_end.above h.count _,
         )
 
     whole_broken : broken whole ≡ is_damage p.stage
@@ -251,54 +234,29 @@ module _ (h : Header) (table : List ℕ) (e : Entry) (w : Walk) (fine : wrong_he
       damage_outcome ends = rw (fine, small, following_is k, there, absent, whole_broken, ends)
 
       free_outcome : p.stage ≡ AtNone
-          → add_outcome h table (from_code e) ≡ grown_outcome h table e w.row w.bits p.bits p.above (side_of (p.path % 2))
+          → add_outcome h table (from_code e) ≡ grown_outcome h table e w.row w.bits p.bits (hook_at p h.width)
       unfolding add_outcome adding grown_outcome
       free_outcome ends =
           rw (fine, small, following_is k, there, absent, whole_broken, whole_rows, grown_is, ends, add-zero (h.width - p.bits))
 
     -- the outcome in terms of the leg l, which is where p is
     module _ (from bits : ℕ) (l : Leg) (row : from ≡ w.row) (left : bits ≡ w.bits) (on : OnLeg h.count l p) where
-      pub growable : Growable h table from bits (end_bits l) l.above
-      growable = rw (row, left, end_bits_are h.count l p on, on.above) grows
+      abbrev ends_at_walk : end_bits l ≡ p.bits
+      ends_at_walk = bits_there l.at p on.stands
+
+      pub growable : Growable h table from bits (end_bits l) (hook_of l h.width)
+      growable = rw (row, left, hook_is l p h.width on.stands on.above, ends_at_walk) grows
 
       pub grown_outcome_is : too_wide h k ≡ false → ends_at k w.entry.key w.stage ≡ false → p.stage ≡ AtNone
-          → add_outcome h table (from_code e) ≡ grown_outcome h table e from bits (end_bits l) l.above (end_side l)
+          → add_outcome h table (from_code e) ≡ grown_outcome h table e from bits (end_bits l) (hook_of l h.width)
       grown_outcome_is small absent ends =
-          rw (row, left, end_side_is h.count l p on, end_bits_are h.count l p on, on.above) (free_outcome small absent ends)
+          rw (row, left, hook_is l p h.width on.stands on.above, ends_at_walk) (free_outcome small absent ends)
 
   -- if the way did not end at a row, `resumed` leaves the walk as it is
   stays : (stage : Stage) → w.stage ≡ stage → again stage ≡ stage → StaysOnWay rows pushing h.count (resumed w) w
   stays stage at same width v g =
       let is : resumed w ≡ w = ap (λ (s : Stage). ended w s w.entry) (ap again at ∙ same ∙ sym at) in
       subst (λ (u : Walk). OnWay rows pushing width h.count v u) is g
-
--- the empty set: the root is the place of the new row
-module _ (h : Header) (table : List ℕ) (e : Entry) (fine : wrong_header h table ≡ false) (empty : h.count ≡ 0) where
-  abbrev word : ℕ
-  word = e.key
-
-  root_walked : Walked (row_at table) (seeking word word) h.width h.count (shown h table) (started h)
-  root_walked = record { walking = begins_root h table (seeking word word); ended = rw (eq-eqb h.count 0 empty) }
-
-  at_root : (started h).stage ≡ AtNone
-  at_root = rw (eq-eqb h.count 0 empty)
-
-  abbrev root_leg : Leg
-  root_leg = record { at = root_place h.width; above = 0 }
-
-  root_on : OnLeg h.count root_leg (started h)
-  root_on =
-      record { stands = root_stands h (right_header h table fine).at_most_32; above = refl; same_count = refl }
-
-  pub root_growable : Growable h table 0 h.width (end_bits root_leg) 0
-  root_growable =
-      growable h table e (started h) fine root_walked (started h) (stays h table e (started h) fine root_walked AtNone at_root refl) root_walked.ended
-      0 h.width root_leg refl refl root_on
-
-  pub root_outcome : too_wide h word ≡ false → add_outcome h table (from_code e) ≡ grown_outcome h table e 0 h.width (end_bits root_leg) 0 (end_side root_leg)
-  root_outcome small =
-      grown_outcome_is h table e (started h) fine root_walked (started h) (stays h table e (started h) fine root_walked AtNone at_root refl) root_walked.ended
-      0 h.width root_leg refl refl root_on small (rw at_root) at_root
 
 -- where the seek of the word ended
 module _ (h : Header) (table : List ℕ) (e : Entry) (fine : wrong_header h table ≡ false) (small : too_wide h e.key ≡ false) (s : Seek) where
@@ -308,44 +266,44 @@ module _ (h : Header) (table : List ℕ) (e : Entry) (fine : wrong_header h tabl
   abbrev rows_there : ℕ → Rows.Row
   rows_there = row_at table
 
-  module _ (g : SeekEnds rows_there h (shown h table) sought_word s None) where
+  module _ (g : SeekEnds rows_there h (shown h table) sought_word s (Ok None)) where
     abbrev w : Walk
     w = g.walk
 
     abbrev link_leg : Leg
-    link_leg = record { at = place_of s sought_word; above = above_of s }
+    link_leg = leg_of s sought_word
 
     link_on : OnLeg h.count link_leg w
     link_on =
         record {
-          stands = Sought.place_stands table h sought_word fine small s None g;
+          stands = Sought.place_stands table h sought_word fine small s (Ok None) g;
           above = g.above;
           same_count = g.walked.walking.same_count;
         }
 
-    pub link_growable : Growable h table (row_of s) (bits_left_by s.mask) (end_bits link_leg) (above_of s)
+    pub link_growable : Growable h table (row_of s) (bits_left_by s.mask) (end_bits link_leg) (hook_of link_leg h.width)
     link_growable =
         growable h table e w fine g.walked w (stays h table e w fine g.walked AtNone g.ends refl) g.walked.ended (row_of s) (bits_left_by s.mask) link_leg
-        g.row (Sought.bits_are table h sought_word fine small s None g) link_on
+        g.row (Sought.bits_are table h sought_word fine small s (Ok None) g) link_on
 
-    pub link_outcome : add_outcome h table (from_code e) ≡ grown_outcome h table e (row_of s) (bits_left_by s.mask) (end_bits link_leg) (above_of s) (end_side link_leg)
+    pub link_outcome : add_outcome h table (from_code e) ≡ grown_outcome h table e (row_of s) (bits_left_by s.mask) (end_bits link_leg) (hook_of link_leg h.width)
     link_outcome =
         grown_outcome_is h table e w fine g.walked w (stays h table e w fine g.walked AtNone g.ends refl) g.walked.ended (row_of s) (bits_left_by s.mask)
-        link_leg g.row (Sought.bits_are table h sought_word fine small s None g) link_on small (ap (ends_at sought_word w.entry.key) g.ends) g.ends
+        link_leg g.row (Sought.bits_are table h sought_word fine small s (Ok None) g) link_on small (ap (ends_at sought_word w.entry.key) g.ends) g.ends
 
-  pub broken_outcome : SeekEnds rows_there h (shown h table) sought_word s Damage → add_outcome h table (from_code e) ≡ record { reply = refused h Answers.Damage; table = table }
+  broken_outcome : SeekEnds rows_there h (shown h table) sought_word s damage → add_outcome h table (from_code e) ≡ record { reply = refused h Answers.Damage; table = table }
   broken_outcome g =
       let v : Walk = g.walk in
       damage_outcome h table e v fine g.walked v (stays h table e v fine g.walked AtDamage g.ends refl) g.walked.ended small (ap (ends_at sought_word v.entry.key) g.ends) g.ends
 
-  module _ (r : Rows.Row) (g : SeekEnds rows_there h (shown h table) sought_word s (Row r)) where
+  module _ (r : Rows.Row) (g : SeekEnds rows_there h (shown h table) sought_word s (Ok (Some r))) where
     pub there_outcome : r.entry.key ≡ sought_word
         → add_outcome h table (from_code e)
         ≡ record { reply = answered h AlreadyThere (h.width - bits_left_by s.mask + 1); table = with_serial (row_of s) e.serial table }
     there_outcome same =
         let v : Walk = g.walk in
         let at_word : ends_at sought_word v.entry.key v.stage ≡ true = rw (g.ends.0, g.ends.2, eq-eqb sought_word r.entry.key (sym same)) in
-        rw (present_outcome h table e v fine g.walked small at_word g.ends.0, Sought.bits_are table h sought_word fine small s (Row r) g, g.ends.0, g.row)
+        rw (present_outcome h table e v fine g.walked small at_word g.ends.0, Sought.bits_are table h sought_word fine small s (Ok (Some r)) g, g.ends.0, g.row)
 
     -- its row is in use
     pub row_used : row_of s < capacity table
@@ -358,8 +316,16 @@ module _ (h : Header) (table : List ℕ) (e : Entry) (fine : wrong_header h tabl
         record {
           walk = g.walk;
           walked = g.walked;
-          stands = Sought.place_stands table h sought_word fine small s (Row r) g;
+          stands = Sought.place_stands table h sought_word fine small s (Ok (Some r)) g;
           path = g.path;
           ends = g.ends;
           another = another;
         }
+
+-- where the call is refused
+pub add_refused : {h : Header} {table : List ℕ} (e : Entry) {a : Answer} → Refused h table e.key a
+    → add_outcome h table (from_code e) ≡ record { reply = refused h a; table = table }
+unfolding add_outcome
+add_refused e (by_header bad) = rw bad
+add_refused e (by_word fine bad) = rw (fine, bad)
+add_refused {h} {table} e (by_damage {s} q) = broken_outcome h table e q.fine q.small s q.ends

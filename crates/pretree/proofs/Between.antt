@@ -1,6 +1,6 @@
 -- The numbers of a seek. The distance of a key from a word tells whether the key has the bits of the word's path.
 use Prim.Native.Nat.{ℕ, suc, ◌+◌, ◌*◌, ◌-◌, ◌/◌, ◌%◌, ◌^◌, ◌≤◌, ◌<◌}
-use mathlib.Core.Path.{◌≡◌, refl}
+use mathlib.Core.Path.{◌≡◌}
 use native.Mathlib.Nat.{suc-mul, mod-lt, div-eq_of_lt-le, add_comm, pow-suc}
 use native.Mathlib.Numerals.{add-one}
 use native.Mathlib.Omega.{arith}
@@ -10,7 +10,7 @@ use lib.Dec.{ltb}
 use lib.Pow.{split, pow_pos, ones_lt, mod-pow-add, mod-mod-pow}
 use borrow.Author.Tests.{lt-ltb, le-ltb}
 use Rattle.std.specs.Prelude.{if◌then◌else◌}
-use Rattle.ordered.specs.Word.{Side, left, right, side_of, bit_of, side}
+use Rattle.ordered.specs.Word.{Side, left, right, bit_of, side}
 use Rattle.ordered.proofs.Bits.{next_bit}
 use Rattle.pretree.specs.Seek.{bits_left_by}
 
@@ -51,10 +51,6 @@ module _ (k key b : ℕ) where
       let to : key < k / 2 ^ b * 2 ^ b + 2 ^ b = (in_part e).1 in
       omega arith
 
-pub side_of_bit : (s : Side) → side_of (bit_of s) ≡ s
-side_of_bit left = refl
-side_of_bit right = refl
-
 -- half a mask has one bit less
 pub half_mask : (m : ℕ) → (2 ^ suc m - 1) / 2 ≡ 2 ^ m - 1
 half_mask m =
@@ -70,13 +66,13 @@ rest_is m k = rw (← go (side m k) (next_bit m k)) (rw (add_comm 1 m, add-one m
     go right e = omega arith
 
 -- the top bit of the remaining bits says the turn
-pub turns_so : (m k : ℕ) → (if ltb ((2 ^ suc m - 1) / 2) (k % 2 ^ suc m) then 1 else 0) ≡ bit_of (side m k)
+pub turns_so : (m k : ℕ) → (if ltb ((2 ^ suc m - 1) / 2) (k % 2 ^ suc m) then right else left) ≡ side m k
 turns_so m k = rw (half_mask m, rest_is m k) (go (side m k))
   where
     low : k % 2 ^ m < 2 ^ m
     low = mod-lt k (pow_pos m)
 
-    go : (s : Side) → (if ltb (2 ^ m - 1) (bit_of s * 2 ^ m + k % 2 ^ m) then 1 else 0) ≡ bit_of s
+    go : (s : Side) → (if ltb (2 ^ m - 1) (bit_of s * 2 ^ m + k % 2 ^ m) then right else left) ≡ s
     go left = let small : 0 * 2 ^ m + k % 2 ^ m ≤ 2 ^ m - 1 = omega (arith, low) in rw (le-ltb _ _ small)
     go right = let large : 2 ^ m - 1 < 1 * 2 ^ m + k % 2 ^ m = omega (arith, pow_pos m) in rw (lt-ltb _ _ large)
 

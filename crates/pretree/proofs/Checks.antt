@@ -1,18 +1,16 @@
 -- What is known once the checks that every call makes first are passed.
-use Prim.Native.Nat.{ℕ, ◌^◌, ◌≤◌, ◌<◌}
-use mathlib.Core.Path.{◌≡◌, refl, sym}
-use mathlib.Core.Bool.{Bool, true, false, ◌||◌, true≢false}
+use Prim.Native.Nat.{ℕ, ◌*◌, ◌%◌, ◌^◌, ◌≤◌, ◌<◌}
+use mathlib.Core.Path.{◌≡◌, refl}
+use mathlib.Core.Bool.{Bool, true, false, ◌||◌}
 use mathlib.Core.List.{List}
-use native.Mathlib.Nat.{pos_of_ne-zero}
+use native.Mathlib.Nat.{pos_of_ne-zero, one-mul, mod-eq_of_lt}
+use native.Mathlib.Omega.{arith}
 use lib.Dec.{ltb, eqb}
+use lib.Pow.{pow-lt}
 use borrow.Author.Tests.{ltb-false, leb-false, eqb-false}
-use Rattle.std.specs.Prelude.{if◌then◌else◌}
-use Rattle.pretree.specs.declared.Answer.TheVariants.{WrongHeader, WordTooWide}
 use Rattle.pretree.specs.declared.Header.{Header}
-use Rattle.pretree.specs.declared.Reply.{Reply}
 use Rattle.pretree.specs.Table.{capacity}
-use Rattle.pretree.specs.Reply.{wrong_header, too_wide, refused}
-use Rattle.pretree.specs.Found.{refuses, refusal}
+use Rattle.pretree.specs.Reply.{wrong_header, too_wide}
 
 neither : (a b : Bool) → (a || b) ≡ false → (a ≡ false) × (b ≡ false)
 neither true b e = (e, cc)
@@ -35,26 +33,15 @@ right_header h table e =
       has_room = ltb-false (capacity table) h.count a.1;
     }
 
+-- shifting a one by the width loses no bit
+pub shifted : (h : Header) (table : List ℕ) → wrong_header h table ≡ false → 1 * 2 ^ h.width % 2 ^ 64 ≡ 2 ^ h.width
+shifted h table e =
+    let few : h.width ≤ 32 = (right_header h table e).at_most_32 in
+    let less : h.width < 64 = omega arith in
+    let fits : 2 ^ h.width < 2 ^ 64 = pow-lt less in
+    rw (one-mul, mod-eq_of_lt)
+
 -- a word that is not refused
 pub narrow : (h : Header) (k : ℕ) → too_wide h k ≡ false → k < 2 ^ h.width
 unfolding too_wide
 narrow h k e = leb-false (2 ^ h.width) k e
-
--- the checks of a call on a word: if they do not refuse it, header and word are right
-pub not_refused : (h : Header) (table : List ℕ) (k : ℕ) → refuses h table k ≡ false → (wrong_header h table ≡ false) × (too_wide h k ≡ false)
-not_refused h table k e = neither (wrong_header h table) (too_wide h k) e
-
--- if they refuse it, the refusal is that of the definition, whatever would follow
-pub chosen : {A : Type 0} (h : Header) (table : List ℕ) (k : ℕ) (f : Reply → A) (further : A) → refuses h table k ≡ true
-    → f (refusal h table)
-    ≡ (if wrong_header h table then f (refused h WrongHeader)
-    else if too_wide h k then f (refused h WordTooWide)
-    else further)
-chosen h table k f further e = go (wrong_header h table) (too_wide h k) e
-  where
-    go : (a b : Bool) → (a || b) ≡ true
-        → f (if a then refused h WrongHeader else refused h WordTooWide)
-        ≡ (if a then f (refused h WrongHeader) else if b then f (refused h WordTooWide) else further)
-    go true b e = refl
-    go false true e = refl
-    go false false e = absurd (true≢false (sym e))

@@ -1,11 +1,11 @@
 -- A key is displaced: its row is passed, to the side that the key's own bits say, and the push continues below it.
+use Rattle.std.specs.Prelude.{Ok, Err, Some, None}
 use Prim.Native.Nat.{ℕ, zero, suc, ◌-◌, ◌/◌, ◌^◌, ◌<◌}
 use mathlib.Core.Path.{◌≡◌, refl, sym, ap, ◌∙◌, subst}
 use mathlib.Core.Bool.{true, false}
 use mathlib.Core.List.{List}
 use lib.Dec.{leb, eqb}
 use borrow.Author.Tests.{ne_eqb, eqb-true}
-use Rattle.ordered.specs.Word.{side_of}
 use Rattle.ordered.specs.Way.{pushing, to}
 use Rattle.ordered.proofs.Ways.{and_true}
 use Rattle.ordered.proofs.Bits.{whole_path}
@@ -13,20 +13,18 @@ use Rattle.pretree.specs.declared.Entry.{Entry}
 use Rattle.pretree.specs.declared.Header.{Header}
 use Rattle.pretree.specs.declared.Row as Rows
 use Rattle.pretree.specs.declared.Answer.TheVariants as Answers
-use Rattle.pretree.specs.declared.leg.End.{End}
-use Rattle.pretree.specs.declared.leg.End.TheVariants.{None, Row, Damage}
 use Rattle.pretree.specs.declared.leg.Place.{Place}
 use Rattle.pretree.specs.declared.leg.Leg.{Leg}
 use Rattle.pretree.specs.Table.{from_code, row_at}
 use Rattle.pretree.specs.Reply.{wrong_header, too_wide, refused}
 use Rattle.pretree.specs.Walk.{Walk, AtNone, AtRow, AtDamage, stage_at, is_on, holds, Placed}
 use Rattle.pretree.specs.Resume.{ends_at, again, resumed}
-use Rattle.pretree.specs.Leg.{link_end, EndsAs, Stands, OnLeg, StaysOnWay, passes_push, own_side, BegunLeg, LegWalk, LegStopped, LegEnds}
+use Rattle.pretree.specs.Leg.{link_end, EndsAs, Stands, OnLeg, StaysOnWay, passes_push, own_side, BegunLeg, LegWalk, LegStopped, LegEnds, End, damage, leg_past}
 use Rattle.pretree.specs.Seek.{bits_left_by}
 use Rattle.pretree.specs.Add.{add_outcome}
-use Rattle.pretree.specs.Push.{end_bits, end_side, Growable, grown_outcome, Displaces}
+use Rattle.pretree.specs.Push.{end_bits, hook_of, Growable, grown_outcome, Displaces}
 use Rattle.pretree.proofs.Places.{inner, bits_there}
-use Rattle.pretree.proofs.Legs.{leg_past, goes_past, own_turn, push_ends}
+use Rattle.pretree.proofs.Legs.{goes_past, own_turn, push_ends}
 use Rattle.pretree.proofs.Adding.{not_at_row, damage_outcome, growable, grown_outcome_is}
 
 module _ (h : Header) (table : List ℕ) (x : Entry) (at : Place) (r : Rows.Row) (fine : wrong_header h table ≡ false)
@@ -84,7 +82,7 @@ module _ (h : Header) (table : List ℕ) (x : Entry) (at : Place) (r : Rows.Row)
 
   -- past the row, to the side that its key's own bits say
   abbrev past : Rows.Row → Leg
-  past y = leg_past row_leg y (side_of (own_side at.mask y.entry.key))
+  past y = leg_past row_leg y (own_side at.mask y.entry.key)
 
   passes_first : LegWalk rows pushing h.count stage_at (resumed w) (past r)
   unfolding pushing
@@ -114,28 +112,28 @@ module _ (h : Header) (table : List ℕ) (x : Entry) (at : Place) (r : Rows.Row)
     absent : ends_at k w.entry.key w.stage ≡ false
     absent = ap (ends_at k w.entry.key) d.ends.0 ∙ ap (λ e. eqb k e.key) d.ends.2 ∙ ne_eqb k key (λ same. d.another (sym same))
 
-    pub push_damaged : end ≡ Damage → add_outcome h table (from_code x) ≡ record { reply = refused h Answers.Damage; table = table }
+    pub push_damaged : end ≡ damage → add_outcome h table (from_code x) ≡ record { reply = refused h Answers.Damage; table = table }
     push_damaged e =
         let at_damage : p.stage ≡ AtDamage = subst (EndsAs rows p) e ends_push.ends in
         damage_outcome h table x w fine d.walked p stays (ap is_on at_damage) small absent at_damage
 
-    at_link : (end ≡ Damage → ⊥) → p.stage ≡ AtNone
+    at_link : (end ≡ damage → ⊥) → p.stage ≡ AtNone
     at_link whole = go end refl ends_push.ends
       where
-        off : (r : Rows.Row) → EndsAs rows p (Row r) → p.stage ≡ AtNone
+        off : (r : Rows.Row) → EndsAs rows p (Ok (Some r)) → p.stage ≡ AtNone
         off r at_row = absurd (not_at_row h table x w fine d.walked p stays (ap is_on at_row.0) m d.ends.0 bits at_row.0)
 
         go : (e : End) → end ≡ e → EndsAs rows p e → p.stage ≡ AtNone
-        go None is ends = ends
-        go (Row r) is ends = off r ends
-        go Damage is ends = absurd (whole is)
+        go (Ok None) is ends = ends
+        go (Ok (Some r)) is ends = off r ends
+        go (Err e) is ends = absurd (whole is)
 
-    module _ (whole : end ≡ Damage → ⊥) where
-      pub push_growable : Growable h table at.row (bits_left_by at.mask) (end_bits leg) leg.above
+    module _ (whole : end ≡ damage → ⊥) where
+      pub push_growable : Growable h table at.row (bits_left_by at.mask) (end_bits leg) (hook_of leg h.width)
       push_growable =
           growable h table x w fine d.walked p stays (ap is_on (at_link whole)) at.row (bits_left_by at.mask) leg d.stands.row (bits_there at w d.stands) ends_push.on
 
-      pub push_outcome : add_outcome h table (from_code x) ≡ grown_outcome h table x at.row (bits_left_by at.mask) (end_bits leg) leg.above (end_side leg)
+      pub push_outcome : add_outcome h table (from_code x) ≡ grown_outcome h table x at.row (bits_left_by at.mask) (end_bits leg) (hook_of leg h.width)
       push_outcome =
           grown_outcome_is h table x w fine d.walked p stays (ap is_on (at_link whole)) at.row (bits_left_by at.mask) leg d.stands.row (bits_there at w d.stands) ends_push.on small
           absent (at_link whole)

@@ -1,87 +1,69 @@
 -- From the legs of `del` to what it answers and leaves: the stretch below k's row, the way of the last row, and the outcome.
 -- Document 01: "the way of k, then from k's row down by left link, else right link"; "For this a second way, the way of the last row's key".
-use Prim.Native.Nat.{ℕ, pred, ◌+◌, ◌-◌, ◌%◌, ◌≤◌, ◌<◌}
+use Rattle.pretree.specs.declared.leg.Damaged.{Damaged}
+use Prim.Native.Nat.{ℕ, zero, suc, pred, ◌+◌, ◌-◌, ◌%◌, ◌≤◌, ◌<◌}
 use mathlib.Core.Path.{◌≡◌, refl, sym, ap, ◌∙◌, subst}
 use mathlib.Core.Bool.{Bool, true, false, not, ◌&&◌, ◌||◌, or-true, true≢false}
 use mathlib.Core.List.{List}
-use native.Mathlib.Nat.{le_trans, le_of_eq, lt_of_lt_of_le}
+use native.Mathlib.Nat.{pos_of_ne-zero, le_trans, le_of_eq, lt_of_lt_of_le}
 use native.Mathlib.Omega.{arith}
 use native.Mathlib.Numerals.{sub-one}
 use lib.Dec.{ltb, eqb}
 use lib.ListN.{length, length-append}
-use lib.Pow.{shl-shr}
 use borrow.Author.Tests.{lt-ltb, eq-eqb, ne_eqb, eqb-true}
-use Rattle.std.specs.Prelude.{if◌then◌else◌}
-use Rattle.ordered.specs.Such.{Perhaps, anything}
+use Rattle.std.specs.Prelude.{IsErr, ◌≢◌, Option, Some, None, Ok, Err, if◌then◌else◌, Result}
+use Rattle.ordered.specs.Such.{anything}
 use Rattle.ordered.specs.Word.{left, side_of}
 use Rattle.ordered.specs.Tree.{Tree, none}
 use Rattle.ordered.specs.Way.{Way, Step, way, joined, broken, is_damaged, following, down}
 use Rattle.ordered.specs.Way as Ways
 use Rattle.ordered.specs.Change.{Erasing, erasing, erasing_by, way_ends_at, number_at, above_end}
-use Rattle.ordered.proofs.Parts.{All, all_append, IfSuch, last_such_one}
+use Rattle.ordered.proofs.Parts.{All, all_append, last_such_one}
 use Rattle.pretree.specs.declared.Header.{Header}
 use Rattle.pretree.specs.declared.Row as Rows
+use Rattle.pretree.specs.declared.Answer.{Answer}
 use Rattle.pretree.specs.declared.Answer.TheVariants.{Done, Damage, NoSuchWord}
-use Rattle.pretree.specs.declared.leg.End.{End}
-use Rattle.pretree.specs.declared.leg.End.TheVariants as Ends
 use Rattle.pretree.specs.declared.leg.Place.{Place}
 use Rattle.pretree.specs.declared.leg.Leg.{Leg}
 use Rattle.pretree.specs.declared.seek.Seek.{Seek}
-use Rattle.pretree.specs.declared.erase.Hook.{Hook}
+use Rattle.pretree.specs.declared.leg.Damaged.{Damaged}
+use Rattle.pretree.specs.declared.leg.Hook.{Hook}
 use Rattle.pretree.specs.declared.erase.Hole.{Hole}
 use Rattle.pretree.specs.declared.erase.Move.{Move}
-use Rattle.pretree.specs.Table.{capacity, row_at, with_row, cleared}
+use Rattle.pretree.specs.Table.{capacity, row_at}
 use Rattle.pretree.specs.Unfold.{shown}
 use Rattle.pretree.specs.Reply.{wrong_header, too_wide, refused, answered}
 use Rattle.pretree.specs.Walk.{Walk, Stage, On, AtNone, AtRow, AtDamage}
-use Rattle.pretree.specs.Walk.{is_on, rows_read_by, tree_at, to_come, step_at, remembered, seeking, Ahead, Placed, OnWay, Walked}
-use Rattle.pretree.specs.Seek.{row_of, above_of, bits_left_by, end_at, place_of, Sought, SeekEnds}
-use Rattle.pretree.specs.Leg.{judges, row_end, EndsAs, Stands, OnLeg, StaysOnWay, passes_down, stage_here, BegunLeg, LegStopped, LegEnds}
-use Rattle.pretree.specs.Add.{taking, hooking}
+use Rattle.pretree.specs.Walk.{is_on, rows_read_by, tree_at, to_come, remembered, seeking, Ahead, Placed, OnWay, Walked}
+use Rattle.pretree.specs.Seek.{row_of, above_of, bits_left_by, place_of, leg_of, WayEnds, Refused, by_header, by_word, by_damage}
+use Rattle.pretree.specs.Leg.{judges, row_end, EndsAs, Stands, OnLeg, StaysOnWay, passes_down, stage_here, BegunLeg, LegStopped, LegEnds, End, damage, as_end}
 use Rattle.pretree.specs.Del.{second_way, astray, moving, shrunk, del_outcome}
 use Rattle.pretree.specs.Resume.{is_damage, ends_at, again, resumed}
-use Rattle.pretree.specs.Erased.{RowOfKey, hook_of, hooked_at, SameHook, HookInTable, raising, JudgedStretch, JudgedMove, no_link, Within, filled, emptied}
+use Rattle.pretree.specs.Push.{hook_of, HookInTable}
+use Rattle.pretree.specs.Erased.{RowOfKey, SameHook, JudgedStretch, strays, WholeMove, JudgedMove, moved_rows, Within, filled, emptied}
 use Rattle.pretree.proofs.Places.{bits_there}
 use Rattle.pretree.proofs.Unfolding.{is_row}
-use Rattle.pretree.proofs.Walking.{at_none}
 use Rattle.pretree.proofs.Ended.{end_part, WayEnd, way_end, way_rows}
 use Rattle.pretree.proofs.SeekTurn.{following_is}
 use Rattle.pretree.proofs.Resuming.{resumes, WholeWayEnd, whole_way_end, rows_used, shown_used}
-use Rattle.pretree.proofs.Sought.{seek_ends, place_stands}
+use Rattle.pretree.proofs.Sought.{place_stands}
 use Rattle.pretree.proofs.Legs.{down_ends}
-use Rattle.pretree.proofs.Adding.{hooks, there, in_table}
+use Rattle.pretree.proofs.Hooks.{hook_at, hook_is, hook_by, hook_in_table_by}
+use Rattle.pretree.proofs.Adding.{there, in_table}
 use Rattle.pretree.proofs.Raising.{Stretch, stretch}
 use Rattle.pretree.proofs.EndKeys.{no_such_end}
-
--- where the end of a walk is linked; at the root `width` bits were left
-abbrev hook_at : Walk → ℕ → Hook
-hook_at w width = record { linked = ltb w.bits width; above = w.above; side = w.path % 2 }
-
--- the code's hook is the same: the side is the last bit of the path
-hook_is : (p : Place) (w : Walk) (above width : ℕ) → Stands p w → above ≡ w.above → hook_of p (bits_left_by p.mask) width above ≡ hook_at w width
-hook_is p w above width st a = rw (bits_there p w st, st.path, shl-shr w.path w.bits, a)
-
--- the way of k was sought in a call that is not refused, and ended as `end` says
-pub record SeekDone (h : Header) (table : List ℕ) (k : ℕ) (s : Seek) (end : End) : Type 0 where
-  pub fine : wrong_header h table ≡ false
-  pub small : too_wide h k ≡ false
-  pub ends : SeekEnds (row_at table) h (shown h table) k s end
-
-pub seek_done : (h : Header) (table : List ℕ) (k : ℕ) (s : Seek) (end : End) → wrong_header h table ≡ false → too_wide h k ≡ false → 0 < h.count
-    → Sought (row_at table) h (shown h table) k s → end ≡ end_at (row_at table) h.count k s → SeekDone h table k s end
-seek_done h table k s end fine small some g is =
-    record { fine = fine; small = small; ends = rw is (seek_ends table h k fine small s g some) }
+use Rattle.pretree.proofs.WholeTable.{none_shown}
 
 -- the walk of that seek is at the seek's place
-module _ {h : Header} {table : List ℕ} {k : ℕ} {s : Seek} {end : End} (q : SeekDone h table k s end) where
+module _ {h : Header} {table : List ℕ} {k : ℕ} {s : Seek} {end : End} (q : WayEnds h table k s end) where
   stands_there : Stands (place_of s k) q.ends.walk
   stands_there = place_stands table h k q.fine q.small s end q.ends
 
   bits_left : bits_left_by s.mask ≡ q.ends.walk.bits
   bits_left = bits_there (place_of s k) q.ends.walk stands_there
 
-  hook_there : hook_of (place_of s k) (bits_left_by s.mask) h.width (above_of s) ≡ hook_at q.ends.walk h.width
-  hook_there = hook_is (place_of s k) q.ends.walk (above_of s) h.width stands_there q.ends.above
+  hook_there : hook_of (leg_of s k) h.width ≡ hook_at q.ends.walk h.width
+  hook_there = hook_is _ q.ends.walk h.width stands_there q.ends.above
 
 -- at a place further down no more bits are left
 fewer : (p q : Place) (w v : Walk) → Stands p w → Stands q v → v.bits ≤ w.bits → bits_left_by q.mask ≤ bits_left_by p.mask
@@ -98,25 +80,13 @@ hole_of at r width =
       from = at.row;
       steps = bits_left_by at.mask - bits_left_by r.at.mask;
       row = r.at.row;
-      hook = hook_of r.at (bits_left_by r.at.mask) width r.above;
+      hook = hook_of r width;
       rows = width - bits_left_by r.at.mask + 1;
     }
 
 hole_stands : (at : Place) (r : Leg) (w s : Walk) (width : ℕ) → Stands at w → Stands r.at s → r.above ≡ s.above → hole_of at r width ≡ hole_at w s width
 hole_stands at r w s width at_w at_s a =
-    rw (hook_is r.at s r.above width at_s a, bits_there r.at s at_s, bits_there at w at_w, at_w.row, at_s.row)
-
--- the hook at the last step that a walk remembers
-module _ (rows : ℕ → Rows.Row) (n room bits above path : ℕ) (fits : n ≤ room) where
-  hook_by : (b : Bool) (p : Perhaps Step) → p ≡ remembered rows n b bits above (side_of (path % 2))
-      → SameHook p (record { linked = b; above = above; side = path % 2 })
-  hook_by b p e = λ i table. rw e (hooks rows n bits above i (side_of (path % 2)) table b)
-
-  hook_in_table_by : (b : Bool) (p : Perhaps Step) → p ≡ remembered rows n b bits above (side_of (path % 2)) → IfSuch (λ s. s.at < n) p
-      → HookInTable room (record { linked = b; above = above; side = path % 2 })
-  unfolding step_at
-  hook_in_table_by true p e h = (λ linked. lt_of_lt_of_le (rw e at h) fits, omega arith)
-  hook_in_table_by false p e h = (λ linked. absurd (true≢false (sym linked)), omega arith)
+    rw (hook_is r s width at_s a, bits_there r.at s at_s, bits_there at w at_w, at_w.row, at_s.row)
 
 -- the way of k, as the walk that has gone it tells
 module _ (h : Header) (table : List ℕ) (fine : wrong_header h table ≡ false) (k : ℕ) (w : Walk)
@@ -306,11 +276,11 @@ module _ (h : Header) (table : List ℕ) (fine : wrong_header h table ≡ false)
             }
 
 -- a leg that ended at a row, and not at damage
-row_there : (rows : ℕ → Rows.Row) (count : ℕ) (p : Place) (w : Walk) → EndsAs rows w (row_end rows count p) → (row_end rows count p ≡ Ends.Damage → ⊥) → w.stage ≡ AtRow
+row_there : (rows : ℕ → Rows.Row) (count : ℕ) (p : Place) (w : Walk) → EndsAs rows w (as_end (row_end rows count p)) → (row_end rows count p ≡ damage → ⊥) → w.stage ≡ AtRow
 row_there rows count p w = go (ltb p.row count && judges p (rows p.row))
   where
-    go : (b : Bool) → EndsAs rows w (if b then Ends.Row (rows p.row) else Ends.Damage)
-        → ((if b then Ends.Row (rows p.row) else Ends.Damage) ≡ Ends.Damage → ⊥) → w.stage ≡ AtRow
+    go : (b : Bool) → EndsAs rows w (as_end (if b then Ok (rows p.row) else damage))
+        → ((if b then Ok (rows p.row) else damage) ≡ damage → ⊥) → w.stage ≡ AtRow
     go true so not_damage = so.0
     go false so not_damage = absurd (not_damage refl)
 
@@ -318,9 +288,6 @@ row_there rows count p w = go (ltb p.row count && judges p (rows p.row))
 module _ {h : Header} {table : List ℕ} {k : ℕ} {at : Place} {above : ℕ} (fine : wrong_header h table ≡ false) (found : RowOfKey h table k at above) where
   abbrev start : Leg
   start = record { at = at; above = above }
-
-  pub some_rows : 0 < h.count
-  some_rows = omega (arith, used h table fine k found.walk found.walked found.there)
 
   on_leg : OnLeg h.count start (resumed found.walk)
   on_leg =
@@ -339,21 +306,21 @@ module _ {h : Header} {table : List ℕ} {k : ℕ} {at : Place} {above : ℕ} (f
   begun = record { walk = resumed found.walk; on = on_leg; stage = wants_row }
 
   module _ {r : Leg} (g : LegStopped (row_at table) (down left) h.count stage_here (passes_down (row_at table) h.count) start r) where
-    leg_ends : LegEnds (row_at table) (down left) h.count (resumed found.walk) r (row_end (row_at table) h.count r.at)
-    leg_ends = down_ends (row_at table) h.count 0 start r g (resumed found.walk) on_leg wants_row
+    leg_ends : LegEnds (row_at table) (down left) h.count (resumed found.walk) r (as_end (row_end (row_at table) h.count r.at))
+    leg_ends = down_ends (row_at table) h.count left start r g (resumed found.walk) on_leg wants_row
 
     pub few_bits : bits_left_by r.at.mask ≤ h.width
     few_bits =
         le_trans (le_of_eq (bits_there r.at leg_ends.walk leg_ends.on.stands))
         (on_both h table fine k found.walk found.walked found.there leg_ends.walk leg_ends.stays_on_way).fits
 
-    pub damaged_below : row_end (row_at table) h.count r.at ≡ Ends.Damage → broken (erasing h.width k (shown h table)).rows_read ≡ true
+    pub damaged_below : row_end (row_at table) h.count r.at ≡ damage → broken (erasing h.width k (shown h table)).rows_read ≡ true
     damaged_below d =
-        let so : leg_ends.walk.stage ≡ AtDamage = subst (EndsAs (row_at table) leg_ends.walk) d leg_ends.ends in
+        let so : leg_ends.walk.stage ≡ AtDamage = subst (λ (x : Result Rows.Row Damaged). EndsAs (row_at table) leg_ends.walk (as_end x)) d leg_ends.ends in
         let off : is_on leg_ends.walk.stage ≡ false = ap is_on so in
         broken_below h table fine k found.walk found.walked found.there leg_ends.walk leg_ends.stays_on_way off ∙ ap is_damage so
 
-    module _ (there : row_end (row_at table) h.count r.at ≡ Ends.Damage → ⊥) where
+    module _ (there : row_end (row_at table) h.count r.at ≡ damage → ⊥) where
       row_end_is : leg_ends.walk.stage ≡ AtRow
       row_end_is = row_there (row_at table) h.count r.at leg_ends.walk leg_ends.ends there
 
@@ -377,27 +344,20 @@ module _ {h : Header} {table : List ℕ} {k : ℕ} {at : Place} {above : ℕ} (f
 
 -- whether a way that ended at row i, as the `End` says, ended at the last row
 abbrev pub ends_last : ℕ → ℕ → End → Bool
-ends_last i last Ends.None = false
-ends_last i last (Ends.Row r) = eqb i last
-ends_last i last Ends.Damage = false
+ends_last i last (Ok None) = false
+ends_last i last (Ok (Some r)) = eqb i last
+ends_last i last (Err d) = false
 
--- in each arm of a `match`
-pub is_last : (i last : ℕ) (e : End) (r : Rows.Row) → e ≡ Ends.Row r → eqb i last ≡ ends_last i last e
-is_last i last e r d = rw d
-
-pub no_last : (i last : ℕ) (e : End) → ((r : Rows.Row) → e ≡ Ends.Row r → ⊥) → ends_last i last e ≡ false
-no_last i last Ends.None other = refl
-no_last i last (Ends.Row r) other = absurd (other r refl)
-no_last i last Ends.Damage other = refl
+pub no_last : (i last : ℕ) (e : End) → ((r : Rows.Row) → e ≡ Ok (Some r) → ⊥) → ends_last i last e ≡ false
+no_last i last (Ok None) other = refl
+no_last i last (Ok (Some r)) other = absurd (other r refl)
+no_last i last (Err d) other = refl
 
 -- if the second test implies the first, the second alone decides whether both hold
 only_second : (a b : Bool) → (b ≡ true → a ≡ true) → not (a && b) ≡ not b
 only_second true b own = refl
 only_second false true own = absurd (true≢false (sym (own refl)))
 only_second false false own = refl
-
-pub no_link_in_table : (n : ℕ) (needed astray : Bool) → HookInTable n (no_link needed astray).hook
-no_link_in_table n needed astray = (λ never. absurd (true≢false (sym never)), omega arith)
 
 -- the way of the last row's key, and whether it is astray
 module _ (h : Header) (table : List ℕ) (fine : wrong_header h table ≡ false) where
@@ -407,26 +367,13 @@ module _ (h : Header) (table : List ℕ) (fine : wrong_header h table ≡ false)
   abbrev last_key : ℕ
   last_key = (row_at table last).entry.key
 
-  pub nothing_moves : (hole : ℕ) → hole ≡ last → JudgedMove h table hole (no_link false false)
-  nothing_moves hole e =
-      record { needed = rw (eq-eqb hole last e); astray = refl; rows = λ good. refl; hook = λ good never. absurd (true≢false (sym never)) }
-
   -- the way of a key that is no word is astray
-  wide_strays : too_wide h last_key ≡ true → (broken (second_way h table) || astray h table (second_way h table)) ≡ true
+  pub wide_strays : (x : ℕ) → x ≡ last_key → too_wide h x ≡ true → strays h table ≡ true
   unfolding second_way astray
-  wide_strays wide = rw (no_such_end (following last_key) h table last_key wide) (or-true (broken (second_way h table)))
-
-  pub wide_moves : (x : ℕ) → x ≡ last_key → too_wide h x ≡ true → (hole : ℕ) → (hole ≡ last → ⊥) → JudgedMove h table hole (no_link true true)
-  wide_moves x own wide hole apart =
-      record {
-        needed = rw (ne_eqb hole last apart);
-        astray = sym (wide_strays (rw own at wide));
-        rows = λ good. absurd (true≢false good);
-        hook = λ good. absurd (true≢false good);
-      }
+  wide_strays x own wide = rw (no_such_end (following last_key) h table last_key (rw own at wide)) (or-true (broken (second_way h table)))
 
   module _ (w : Walk) (gone : Walked (row_at table) (seeking last_key last_key) h.width h.count (shown h table) w) where
-    astray_is : (broken (second_way h table) || astray h table (second_way h table)) ≡ not (ends_at last_key w.entry.key w.stage && eqb w.row last)
+    astray_is : strays h table ≡ not (ends_at last_key w.entry.key w.stage && eqb w.row last)
     unfolding second_way astray
     astray_is =
         rw (broken_is h table fine last_key w gone, ends_is h table fine last_key w gone)
@@ -442,32 +389,33 @@ module _ (h : Header) (table : List ℕ) (fine : wrong_header h table ≡ false)
 
     -- if the way ended at the last row, the key there is the last row's key
     astray_by : (e : End) → EndsAs (row_at table) w e → not (ends_at last_key w.entry.key w.stage && eqb w.row last) ≡ not (ends_last w.row last e)
-    astray_by Ends.None so = rw so
-    astray_by Ends.Damage so = rw so
-    astray_by (Ends.Row r) so = rw so.0 (only_second (eqb last_key w.entry.key) (eqb w.row last) own)
+    astray_by (Ok None) so = rw so
+    astray_by (Err d) so = rw so
+    astray_by (Ok (Some r)) so = rw so.0 (only_second (eqb last_key w.entry.key) (eqb w.row last) own)
       where
         own : eqb w.row last ≡ true → eqb last_key w.entry.key ≡ true
         own same = eq-eqb last_key w.entry.key (rw (so.2, so.1, eqb-true w.row last same))
 
     at_last : (e : End) → EndsAs (row_at table) w e → not (ends_last w.row last e) ≡ false → w.stage ≡ AtRow
-    at_last Ends.None so good = absurd (true≢false good)
-    at_last Ends.Damage so good = absurd (true≢false good)
-    at_last (Ends.Row r) so good = so.0
+    at_last (Ok None) so good = absurd (true≢false good)
+    at_last (Err d) so good = absurd (true≢false good)
+    at_last (Ok (Some r)) so good = so.0
 
-    last_moves : (e : End) → EndsAs (row_at table) w e → (ends : Bool) → ends ≡ ends_last w.row last e → (hole : ℕ) → (hole ≡ last → ⊥)
-        → JudgedMove h table hole
-        (record { needed = true; astray = not ends; hook = hook_at w h.width; rows = h.width - w.bits + 1 })
+    strays_by : (e : End) → EndsAs (row_at table) w e → strays h table ≡ not (ends_last w.row last e)
+    strays_by e so = astray_is ∙ astray_by e so
+
+    last_moves : (e : End) → EndsAs (row_at table) w e → ends_last w.row last e ≡ true
+        → WholeMove h table (record { hook = hook_at w h.width; rows = h.width - w.bits + 1 })
     unfolding second_way
-    last_moves e so ends is hole apart =
+    last_moves e so is =
         record {
-          needed = rw (ne_eqb hole last apart);
-          astray = rw is (sym (astray_is ∙ astray_by e so));
-          rows = λ good. rw (rows_are h table fine last_key w gone, at_last e so (rw is at good));
-          hook = λ good needed. hooks_whole h table fine last_key w gone;
+          whole = strays_by e so ∙ rw is;
+          rows = rw (rows_are h table fine last_key w gone, at_last e so (rw is));
+          hook = hooks_whole h table fine last_key w gone;
         }
 
 -- the move of the last row, from the seek of its key x
-module _ {h : Header} {table : List ℕ} {x : ℕ} {s : Seek} {end : End} (q : SeekDone h table x s end) (own : x ≡ (row_at table (pred h.count)).entry.key) where
+module _ {h : Header} {table : List ℕ} {x : ℕ} {s : Seek} {end : End} (q : WayEnds h table x s end) (own : x ≡ (row_at table (pred h.count)).entry.key) where
   abbrev own_key : ℕ
   own_key = (row_at table (pred h.count)).entry.key
 
@@ -475,46 +423,38 @@ module _ {h : Header} {table : List ℕ} {x : ℕ} {s : Seek} {end : End} (q : S
   last_walked =
       subst (λ (k : ℕ). Walked (row_at table) (seeking k k) h.width h.count (shown h table) q.ends.walk) own q.ends.walked
 
-  module _ {p : Place} {bits : ℕ} {k : Hook} (at : p ≡ place_of s x) (left_there : bits ≡ bits_left_by s.mask) (hooked : k ≡ hook_of p bits h.width (above_of s)) where
+  its_end : (b : Bool) → ends_last (row_of s) (h.count - 1) end ≡ b → ends_last q.ends.walk.row (pred h.count) end ≡ b
+  its_end b is = rw (q.ends.row, sub-one h.count) at is
+
+  pub seek_strays : ends_last (row_of s) (h.count - 1) end ≡ false → strays h table ≡ true
+  seek_strays is = strays_by h table q.fine q.ends.walk last_walked end q.ends.ends ∙ rw (its_end false is)
+
+  module _ {l : Leg} {bits : ℕ} {k : Option Hook} (at : l ≡ leg_of s x) (left_there : bits ≡ bits_left_by s.mask)
+      (hooked : k ≡ hook_of l h.width) where
     its_hook : k ≡ hook_at q.ends.walk h.width
-    its_hook = hooked ∙ rw (at, left_there) (hook_there q)
+    its_hook = hooked ∙ rw at (hook_there q)
 
-    its_bits : bits ≡ q.ends.walk.bits
-    its_bits = left_there ∙ bits_left q
-
-    pub seek_moves : (ends : Bool) → ends ≡ ends_last (row_of s) (h.count - 1) end → (hole : ℕ) → (hole ≡ pred h.count → ⊥)
-        → JudgedMove h table hole (record { needed = true; astray = not ends; hook = k; rows = h.width - bits + 1 })
-    seek_moves ends so hole apart =
-        let same_row = ap (λ (i : ℕ). ends_last i (h.count - 1) end) q.ends.row in
-        let same_last = ap (λ (n : ℕ). ends_last q.ends.walk.row n end) (sub-one h.count) in
-        rw (its_hook, its_bits) (last_moves h table q.fine q.ends.walk last_walked end q.ends.ends ends (so ∙ same_row ∙ same_last) hole apart)
+    pub seek_moves : ends_last (row_of s) (h.count - 1) end ≡ true → WholeMove h table (record { hook = k; rows = h.width - bits + 1 })
+    seek_moves is =
+        rw (its_hook, left_there, bits_left q) (last_moves h table q.fine q.ends.walk last_walked end q.ends.ends (its_end true is))
 
     pub seek_hook_in_table : HookInTable (capacity table) k
     seek_hook_in_table = subst (HookInTable (capacity table)) (sym its_hook) (hook_in_table_whole h table q.fine own_key q.ends.walk last_walked)
 
--- one write after the other, each on what the one before it left
-pub writes_empty : (last : ℕ) (hole : Hole) (m : Move) (table : List ℕ) {raised unlinked moved after : List ℕ}
-    → raised ≡ taking (raising (row_at table) hole.steps hole.from) table
-    → unlinked ≡ hooked_at hole.hook 0 raised
-    → moved ≡ filled hole.row last m unlinked
-    → after ≡ with_row last cleared moved
-    → after ≡ emptied last hole m table
-unfolding emptied
-writes_empty last hole m table r u f a = rw (a, f, u, r)
+-- a set without rows has no word
+no_word : (m k : ℕ) → (erasing m k none).present ≡ false
+unfolding erasing way
+no_word zero k = refl
+no_word (suc m) k = refl
+
+pub some_rows : (h : Header) (table : List ℕ) (k : ℕ) (hole : Hole) → JudgedStretch (erasing h.width k (shown h table)) table hole → 0 < h.count
+some_rows h table k hole e =
+    pos_of_ne-zero (λ empty. true≢false (sym e.present ∙ ap (λ (t : Tree). (erasing h.width k t).present) (none_shown h table empty) ∙ no_word h.width k))
 
 -- the outcome, in the order of document 01's refusals
 module _ (h : Header) (table : List ℕ) (k : ℕ) (fine : wrong_header h table ≡ false) (small : too_wide h k ≡ false) where
   abbrev change : Erasing
   change = erasing h.width k (shown h table)
-
-  -- "with a count of 0 every way is empty"
-  is_none : h.count ≡ 0 → shown h table ≡ none
-  unfolding shown
-  is_none none_there = rw (eq-eqb h.count 0 none_there)
-
-  pub on_empty : h.count ≡ 0 → del_outcome h table k ≡ record { reply = answered h NoSuchWord 0; table = table }
-  unfolding del_outcome erasing broken Ways.rows
-  on_empty none_there = rw (fine, small, is_none none_there, at_none (following k) h.width)
 
   pub on_damage : broken change.rows_read ≡ true → del_outcome h table k ≡ record { reply = refused h Damage; table = table }
   unfolding del_outcome
@@ -531,63 +471,48 @@ module _ (h : Header) (table : List ℕ) (k : ℕ) (fine : wrong_header h table 
     not_there ok =
         rw (fine, small, ends_is h table fine k w gone ∙ absent, broken_is h table fine k w gone ∙ ok, rows_are h table fine k w gone)
 
-  module _ (hole : Hole) (m : Move) (e : JudgedStretch change table hole) (v : JudgedMove h table hole.row m) where
-    moves_is : not (eqb change.hole (pred h.count)) ≡ m.needed
-    moves_is = rw e.row (sym v.needed)
-
-    pub on_straying : m.astray ≡ true → del_outcome h table k ≡ record { reply = refused h Damage; table = table }
+  module _ (hole : Hole) (e : JudgedStretch change table hole) where
+    pub on_straying : (d : Damaged) → JudgedMove h table hole.row (Err d) → del_outcome h table k ≡ record { reply = refused h Damage; table = table }
     unfolding del_outcome
-    on_straying bad = rw (fine, small, e.whole, e.present, moves_is, ← v.astray, bad)
+    on_straying d v = rw (fine, small, e.whole, e.present, e.row, ne_eqb hole.row (pred h.count) v.0, v.1)
 
-    module _ (good : m.astray ≡ false) where
-      left_is : shrunk (pred h.count) change (second_way h table) m.needed table ≡ emptied (pred h.count) hole m table
-      unfolding shrunk moving emptied filled
-      left_is = rw (e.takes, e.row, e.hook) (go m.needed (v.hook good) _)
-        where
-          go : (b : Bool) → (b ≡ true → SameHook (above_end (second_way h table)) m.hook) → (t : List ℕ)
-              → with_row (pred h.count) cleared
-              (if b then hooking (above_end (second_way h table)) hole.row (with_row hole.row (row_at t (pred h.count)) t) else t)
-              ≡ with_row (pred h.count) cleared
-              (if b then hooked_at m.hook hole.row (with_row hole.row (row_at t (pred h.count)) t) else t)
-          go true hook t = rw (hook refl)
-          go false hook t = refl
-
-      pub on_done : del_outcome h table k
-          ≡ record {
-            reply =
-                record { header = record { width = h.width; count = pred h.count }; answer = Done; rows = hole.rows; moved = m.rows };
-            table = emptied (pred h.count) hole m table;
-          }
-      unfolding del_outcome
-      on_done = rw (moves_is, left_is, fine, small, e.whole, e.present, ← v.astray, good, e.rows, ← v.rows good)
+    pub on_done : (m : Option Move) → JudgedMove h table hole.row (Ok m)
+        → del_outcome h table k
+        ≡ record {
+          reply =
+              record { header = record { width = h.width; count = pred h.count }; answer = Done; rows = hole.rows; moved = moved_rows m };
+          table = emptied (pred h.count) hole m table;
+        }
+    unfolding del_outcome shrunk moving emptied filled
+    on_done None v = rw (fine, small, e.whole, e.present, e.rows, e.row, eq-eqb hole.row (pred h.count) v, e.takes, e.hook)
+    on_done (Some m) v =
+        rw (fine, small, e.whole, e.present, e.rows, e.row, ne_eqb hole.row (pred h.count) v.0, v.1.whole, v.1.rows, e.takes, e.hook, v.1.hook)
 
 -- the outcome, by how the seek of k ended
-module _ {h : Header} {table : List ℕ} {k : ℕ} {s : Seek} {end : End} (q : SeekDone h table k s end) where
-  so_ended : (e : End) → end ≡ e → EndsAs (row_at table) q.ends.walk e
-  so_ended e is = subst (EndsAs (row_at table) q.ends.walk) is q.ends.ends
-
-  pub seek_damage : end ≡ Ends.Damage → del_outcome h table k ≡ record { reply = refused h Damage; table = table }
-  seek_damage is =
-      let so : q.ends.walk.stage ≡ AtDamage = so_ended Ends.Damage is in
+module _ {h : Header} {table : List ℕ} {k : ℕ} where
+  pub del_refused : {a : Answer} → Refused h table k a → del_outcome h table k ≡ record { reply = refused h a; table = table }
+  unfolding del_outcome
+  del_refused (by_header e) = rw e
+  del_refused (by_word e f) = rw (e, f)
+  del_refused (by_damage q) =
+      let so : q.ends.walk.stage ≡ AtDamage = q.ends.ends in
       on_damage h table k q.fine q.small (broken_above h table k q.fine q.small q.ends.walk q.ends.walked (rw so) ∙ rw so)
 
-  pub seek_none : end ≡ Ends.None → del_outcome h table k ≡ record { reply = answered h NoSuchWord (h.width - bits_left_by s.mask); table = table }
-  seek_none is =
-      let so : q.ends.walk.stage ≡ AtNone = so_ended Ends.None is in
+  pub seek_none : {s : Seek} → WayEnds h table k s (Ok None)
+      → del_outcome h table k ≡ record { reply = answered h NoSuchWord (h.width - bits_left_by s.mask); table = table }
+  seek_none {s} q =
+      let so : q.ends.walk.stage ≡ AtNone = q.ends.ends in
       let read : rows_read_by q.ends.walk h.width ≡ h.width - bits_left_by s.mask = rw (so, bits_left q) (omega arith) in
       rw (← read) (not_there h table k q.fine q.small q.ends.walk q.ends.walked (rw so) (rw so))
 
-  module _ {r : Rows.Row} (is : end ≡ Ends.Row r) where
-    so_row : EndsAs (row_at table) q.ends.walk (Ends.Row r)
-    so_row = so_ended (Ends.Row r) is
-
+  module _ {s : Seek} {r : Rows.Row} (q : WayEnds h table k s (Ok (Some r))) where
     pub seek_other : (r.entry.key ≡ k → ⊥)
         → del_outcome h table k ≡ record { reply = answered h NoSuchWord (h.width - bits_left_by s.mask + 1); table = table }
     seek_other apart =
         let absent : ends_at k q.ends.walk.entry.key q.ends.walk.stage ≡ false
-        = rw so_row.0 (ne_eqb k q.ends.walk.entry.key (λ same. apart (sym (same ∙ ap (λ e. e.key) so_row.2)))) in
-        let read : rows_read_by q.ends.walk h.width ≡ h.width - bits_left_by s.mask + 1 = rw (so_row.0, bits_left q) in
-        rw (← read) (not_there h table k q.fine q.small q.ends.walk q.ends.walked absent (rw so_row.0))
+        = rw q.ends.ends.0 (ne_eqb k q.ends.walk.entry.key (λ same. apart (sym (same ∙ ap (λ e. e.key) q.ends.ends.2)))) in
+        let read : rows_read_by q.ends.walk h.width ≡ h.width - bits_left_by s.mask + 1 = rw (q.ends.ends.0, bits_left q) in
+        rw (← read) (not_there h table k q.fine q.small q.ends.walk q.ends.walked absent (rw q.ends.ends.0))
 
     module _ (same : r.entry.key ≡ k) where
       pub row_of_key : RowOfKey h table k (place_of s k) (above_of s)
@@ -595,10 +520,15 @@ module _ {h : Header} {table : List ℕ} {k : ℕ} {s : Seek} {end : End} (q : S
           record {
             walk = q.ends.walk;
             walked = q.ends.walked;
-            there = rw so_row.0 (eq-eqb k q.ends.walk.entry.key (sym (ap (λ e. e.key) so_row.2 ∙ same)));
+            there = rw q.ends.ends.0 (eq-eqb k q.ends.walk.entry.key (sym (ap (λ e. e.key) q.ends.ends.2 ∙ same)));
             stands = stands_there q;
             above = q.ends.above;
           }
 
       pub key_there : (row_at table (row_of s)).entry.key ≡ k
-      key_there = rw (q.ends.row, ← so_row.1) same
+      key_there = rw (q.ends.row, ← q.ends.ends.1) same
+
+-- an error of the second way is handed on
+pub strays_on_error : (h : Header) (table : List ℕ) {hole : ℕ} (r : Result (Option Move) Damaged) → IsErr r → (hole ≢ pred h.count) → strays h table ≡ true → JudgedMove h table hole r
+strays_on_error h table (Ok m) err apart is = absurd (true≢false (sym err))
+strays_on_error h table (Err d) err apart is = (apart, is)

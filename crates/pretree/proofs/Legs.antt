@@ -4,22 +4,20 @@ use mathlib.Core.Path.{◌≡◌, refl, sym, ap, ◌∙◌, subst}
 use mathlib.Core.Bool.{Bool, true, false, not, ◌&&◌, ◌||◌, true≢false}
 use native.Mathlib.Nat.{suc-ne-zero, pos_of_ne-zero}
 use native.Mathlib.Omega.{arith}
-use lib.Bits.{bit_xor, bit_and, and_mask}
+use lib.Bits.{bit_xor, and_mask}
 use lib.Dec.{ltb, leb, eqb}
 use borrow.Author.Tests.{lt-ltb, ne_eqb, ltb-true, eqb-true, eqb-false}
-use Rattle.std.specs.Prelude.{if◌then◌else◌}
-use Rattle.ordered.specs.Word.{Side, left, right, other, side_of, bit_of, side}
+use Rattle.std.specs.Prelude.{if◌then◌else◌, Option, Ok, Some, None}
+use Rattle.ordered.specs.Word.{Side, left, right, other, bit_of, side}
 use Rattle.ordered.specs.Way.{Rule, Turn, stop, to, down, pushing}
 use Rattle.ordered.proofs.Ways.{and_true}
 use Rattle.pretree.specs.declared.Row as Rows
-use Rattle.pretree.specs.declared.leg.End.{End}
-use Rattle.pretree.specs.declared.leg.End.TheVariants.{None, Row, Damage}
 use Rattle.pretree.specs.declared.leg.Place.{Place}
 use Rattle.pretree.specs.declared.leg.Leg.{Leg}
 use Rattle.pretree.specs.Table.{entry_of, link}
 use Rattle.pretree.specs.Walk.{Walk, Stage, On, AtRow, AtDamage, is_on, holds, ended, remembering, passed, turned, stage_at, met, below, down_turn}
-use Rattle.pretree.specs.Leg.{judges, below_place, row_end, link_end, EndsAs, Stands, OnLeg, StaysOnWay, passes_down, first_side, passes_push, own_side, stage_here, BegunLeg, LegWalk, LegStopped, LegEnds}
-use Rattle.pretree.proofs.Between.{turns_so, side_of_bit}
+use Rattle.pretree.specs.Leg.{judges, row_end, link_end, EndsAs, Stands, OnLeg, StaysOnWay, passes_down, first_side, passes_push, own_side, leg_past, past_linked, past_pushed, Led, began, further, stage_here, BegunLeg, LegWalk, LegStopped, LegEnds, End, damage, as_end}
+use Rattle.pretree.proofs.Between.{turns_so}
 use Rattle.pretree.proofs.Places.{judges_alike, below_stands, inner}
 use Rattle.pretree.proofs.Walking.{keeps}
 use Rattle.pretree.proofs.DownTurn.{down_says}
@@ -43,10 +41,6 @@ module _ (rows : ℕ → Rows.Row) (f : Rule) (count : ℕ) (stage_of : ℕ → 
 pub has_room : (rows : ℕ → Rows.Row) (f : Rule) (count : ℕ) (stage_of : ℕ → ℕ → Stage) (l r : Leg) → BegunLeg count stage_of l → Follows rows f count stage_of l r
     → r.at.path + r.at.mask < 2 ^ 32
 has_room rows f count stage_of l r b follows = (follows b.walk b.on b.stage).on.stands.room
-
--- the leg past a row, by its link on a side
-abbrev pub leg_past : Leg → Rows.Row → Side → Leg
-leg_past l r s = record { at = below_place l.at r s; above = l.at.row }
 
 -- a row that a leg passes is in use and undamaged, and bits are left there
 pub record Passing (rows : ℕ → Rows.Row) (count : ℕ) (p : Place) : Type 0 where
@@ -164,12 +158,12 @@ module _ (rows : ℕ → Rows.Row) (f : Rule) (count : ℕ) (l : Leg) (w : Walk)
 
   -- if the leg stops at the row, the walk ends there
   ends_here : (t : Turn) → Says t → (holds w here ≡ true → met w here t ≡ ended w AtRow (entry_of here))
-      → LegEnds rows f count w l (if judges l.at here then Row here else Damage)
+      → LegEnds rows f count w l (as_end (if judges l.at here then Ok here else damage))
   ends_here t says last = rw (judges_alike l.at w on.stands here) (go (holds w here) refl)
     where
-      go : (b : Bool) → holds w here ≡ b → LegEnds rows f count w l (if b then Row here else Damage)
-      go true fine = ended_with t AtRow (Row here) says (last fine) (refl, ap rows on.stands.row, refl)
-      go false bad = ended_with t AtDamage Damage says (meets_damage w here t bad) refl
+      go : (b : Bool) → holds w here ≡ b → LegEnds rows f count w l (as_end (if b then Ok here else damage))
+      go true fine = ended_with t AtRow (Ok (Some here)) says (last fine) (refl, ap rows on.stands.row, refl)
+      go false bad = ended_with t AtDamage damage says (meets_damage w here t bad) refl
 
 -- a walk that ended at the last link of its leg
 ends_at_link : (rows : ℕ → Rows.Row) (f : Rule) (count : ℕ) (l : Leg) (w : Walk) (e : End) → OnLeg count l w → EndsAs rows w e → LegEnds rows f count w l e
@@ -218,6 +212,23 @@ not_false : (b : Bool) → not b ≡ false → b ≡ true
 not_false true h = refl
 not_false false h = sym h
 
+-- what it tells that there is a leg past a row, or none
+past_true : {A : Type 0} (b : Bool) (l m : A) → (if b then Some l else None) ≡ Some m → (b ≡ true) × (m ≡ l)
+past_true true l m e = (refl, cc)
+past_true false l m e = cc
+
+past_false : {A : Type 0} (b : Bool) (l : A) → (if b then Some l else None) ≡ None → b ≡ false
+past_false true l e = cc
+past_false false l e = refl
+
+-- a leg that goes on by steps that follow the walk
+pub led_follows : (rows : ℕ → Rows.Row) (f : Rule) (count : ℕ) (stage_of : ℕ → ℕ → Stage) (R : Leg → Option Leg → Type 0)
+    → ((m n : Leg) → R m (Some n) → Follows rows f count stage_of m n)
+    → (l r : Leg) → Led R l r → Follows rows f count stage_of l r
+led_follows rows f count stage_of R step l r began = follows_itself rows f count stage_of l
+led_follows rows f count stage_of R step l r (further {m} led goes) =
+    follows_further rows f count stage_of l m r (led_follows rows f count stage_of R step l m led) (step m r goes)
+
 -- down by the links: a row is passed to the side that the rule says, by a link other than 0
 abbrev no_links : Rows.Row → Bool
 no_links r = eqb r.left 0 && eqb r.right 0
@@ -225,11 +236,6 @@ no_links r = eqb r.left 0 && eqb r.right 0
 stops_without : (s : Side) (r : Rows.Row) → no_links r ≡ true → down_turn s r ≡ stop
 stops_without left r h = let both = and_true (eqb r.left 0) _ h in rw (both.0, both.1)
 stops_without right r h = let both = and_true (eqb r.left 0) _ h in rw (both.1, both.0)
-
-other_side : (side : ℕ) → side < 2 → side_of (1 - side) ≡ other (side_of side)
-other_side zero small = refl
-other_side (suc zero) small = refl
-other_side (suc (suc s)) small = absurd (omega arith)
 
 module _ (r : Rows.Row) (links : no_links r ≡ false) where
   other_linked : (s : Side) → eqb (link r s) 0 ≡ true → eqb (link r (other s)) 0 ≡ false
@@ -240,24 +246,16 @@ module _ (r : Rows.Row) (links : no_links r ≡ false) where
       go true h = h
       go false h = refl
 
-  first_turn : (side : ℕ) → side < 2 → (down_turn (side_of side) r ≡ to (side_of (first_side side r))) × (link r (side_of (first_side side r)) ≡ 0 → ⊥)
-  first_turn side small = go (eqb (link r (side_of side)) 0) refl
+  first_turn : (s : Side) → (down_turn s r ≡ to (first_side s r)) × (link r (first_side s r) ≡ 0 → ⊥)
+  first_turn s = go (eqb (link r s) 0) refl
     where
-      go : (b : Bool) → eqb (link r (side_of side)) 0 ≡ b
-          → ((if not b then to (side_of side) else if not (eqb (link r (other (side_of side))) 0) then to (other (side_of side)) else stop)
-          ≡ to (side_of (if b then 1 - side else side)))
-          × (link r (side_of (if b then 1 - side else side)) ≡ 0 → ⊥)
+      go : (b : Bool) → eqb (link r s) 0 ≡ b
+          → ((if not b then to s else if not (eqb (link r (other s)) 0) then to (other s) else stop) ≡ to (if b then other s else s))
+          × (link r (if b then other s else s) ≡ 0 → ⊥)
       go false there = (refl, eqb-false _ 0 there)
       go true none =
-          let there : eqb (link r (other (side_of side))) 0 ≡ false = other_linked (side_of side) none in
-          rw (other_side side small, there) (refl, eqb-false _ 0 there)
-
-pub first_small : (side : ℕ) (r : Rows.Row) → side < 2 → first_side side r < 2
-first_small side r small = go (eqb (link r (side_of side)) 0)
-  where
-    go : (b : Bool) → (if b then 1 - side else side) < 2
-    go true = omega arith
-    go false = small
+          let there : eqb (link r (other s)) 0 ≡ false = other_linked s none in
+          rw there (refl, eqb-false _ 0 there)
 
 module _ (rows : ℕ → Rows.Row) (count : ℕ) (p : Place) (goes : passes_down rows count p ≡ true) where
   down_links : no_links (rows p.row) ≡ false
@@ -275,22 +273,31 @@ module _ (rows : ℕ → Rows.Row) (count : ℕ) (p : Place) (goes : passes_down
       inside true e h = absurd (true≢false (sym h))
       inside false e h = pos_of_ne-zero (eqb-false p.mask 0 e)
 
-pub passes_down_is : (rows : ℕ → Rows.Row) (count side : ℕ) (l : Leg) → side < 2 → passes_down rows count l.at ≡ true
-    → Follows rows (down (side_of side)) count stage_here l (leg_past l (rows l.at.row) (side_of (first_side side (rows l.at.row))))
-passes_down_is rows count side l small goes =
+pub passes_down_is : (rows : ℕ → Rows.Row) (count : ℕ) (side : Side) (l : Leg) → passes_down rows count l.at ≡ true
+    → Follows rows (down side) count stage_here l (leg_past l (rows l.at.row) (first_side side (rows l.at.row)))
+passes_down_is rows count side l goes =
     let p : Passing rows count l.at = down_passing rows count l.at goes in
-    let turns = first_turn (rows l.at.row) (down_links rows count l.at goes) side small in
-    passes_row rows (down (side_of side)) count stage_here l _ p (rw (lt-ltb _ _ p.used)) (rw (ne_eqb _ 0 turns.1))
-    (λ w on m e. down_says rows count m l.at.row _ (side_of side) ∙ turns.0)
+    let turns = first_turn (rows l.at.row) (down_links rows count l.at goes) side in
+    passes_row rows (down side) count stage_here l _ p (rw (lt-ltb _ _ p.used)) (rw (ne_eqb _ 0 turns.1))
+    (λ w on m e. down_says rows count m l.at.row _ side ∙ turns.0)
+
+pub linked_follows : (rows : ℕ → Rows.Row) (count : ℕ) (side : Side) (l m : Leg) → past_linked rows count side l ≡ Some m
+    → Follows rows (down side) count stage_here l m
+linked_follows rows count side l m e =
+    let goes = past_true _ _ m e in
+    rw goes.1 (passes_down_is rows count side l goes.0)
+
+pub linked_stops : (rows : ℕ → Rows.Row) (count : ℕ) (side : Side) (l : Leg) → past_linked rows count side l ≡ None → passes_down rows count l.at ≡ false
+linked_stops rows count side l e = past_false _ _ e
 
 -- the walk ends where a leg down by the links stops
-pub down_ends : (rows : ℕ → Rows.Row) (count side : ℕ) (l r : Leg)
-    → LegStopped rows (down (side_of side)) count stage_here (passes_down rows count) l r
+pub down_ends : (rows : ℕ → Rows.Row) (count : ℕ) (side : Side) (l r : Leg)
+    → LegStopped rows (down side) count stage_here (passes_down rows count) l r
     → (w : Walk) → OnLeg count l w → w.stage ≡ stage_here count w.row
-    → LegEnds rows (down (side_of side)) count w r (row_end rows count r.at)
-down_ends rows count side l r g w on at = ends_after rows (down (side_of side)) count stage_here w r _ v (by_used (ltb r.at.row count) refl)
+    → LegEnds rows (down side) count w r (as_end (row_end rows count r.at))
+down_ends rows count side l r g w on at = ends_after rows (down side) count stage_here w r _ v (by_used (ltb r.at.row count) refl)
   where
-    v : LegWalk rows (down (side_of side)) count stage_here w r
+    v : LegWalk rows (down side) count stage_here w r
     v = g.walks w on at
 
     here : Rows.Row
@@ -303,24 +310,17 @@ down_ends rows count side l r g w on at = ends_after rows (down (side_of side)) 
         not_false _ (rw (used, judged) at g.stopped)
 
     by_used : (b : Bool) → ltb r.at.row count ≡ b
-        → LegEnds rows (down (side_of side)) count v.walk r (if b && judges r.at here then Row here else Damage)
+        → LegEnds rows (down side) count v.walk r (as_end (if b && judges r.at here then Ok here else damage))
     by_used true used =
-        ends_here rows (down (side_of side)) count r v.walk v.on (v.stage ∙ rw (← v.on.stands.row, used)) (down_turn (side_of side) here)
-        (λ m e. down_says rows count m r.at.row _ (side_of side))
-        (λ fine. rw (stops_without (side_of side) here (last used fine)) (stops_there v.walk here fine))
+        ends_here rows (down side) count r v.walk v.on (v.stage ∙ rw (← v.on.stands.row, used)) (down_turn side here)
+        (λ m e. down_says rows count m r.at.row _ side)
+        (λ fine. rw (stops_without side here (last used fine)) (stops_there v.walk here fine))
     by_used false unused =
-        ends_at_link rows (down (side_of side)) count r v.walk Damage v.on (v.stage ∙ rw (← v.on.stands.row, unused))
+        ends_at_link rows (down side) count r v.walk damage v.on (v.stage ∙ rw (← v.on.stands.row, unused))
 
 -- The push: the turn by a key's own bits is the turn that the rule says.
-pub own_turn : (mask m key : ℕ) → mask ≡ 2 ^ suc m - 1 → side_of (own_side mask key) ≡ side m key
-own_turn mask m key e = rw (e, and_mask key (suc m), turns_so m key) (side_of_bit (side m key))
-
-pub own_small : (mask key : ℕ) → own_side mask key < 2
-own_small mask key = go (ltb (mask / 2) (bit_and key mask))
-  where
-    go : (b : Bool) → (if b then 1 else 0) < 2
-    go true = omega arith
-    go false = omega arith
+pub own_turn : (mask m key : ℕ) → mask ≡ 2 ^ suc m - 1 → own_side mask key ≡ side m key
+own_turn mask m key e = rw (e, and_mask key (suc m), turns_so m key)
 
 module _ (rows : ℕ → Rows.Row) (count : ℕ) (p : Place) (goes : passes_push rows count p ≡ true) where
   push_linked : p.row ≡ 0 → ⊥
@@ -337,12 +337,21 @@ module _ (rows : ℕ → Rows.Row) (count : ℕ) (p : Place) (goes : passes_push
       }
 
 pub passes_push_is : (rows : ℕ → Rows.Row) (count : ℕ) (l : Leg) → passes_push rows count l.at ≡ true
-    → Follows rows pushing count stage_at l (leg_past l (rows l.at.row) (side_of (own_side l.at.mask (rows l.at.row).entry.key)))
+    → Follows rows pushing count stage_at l (leg_past l (rows l.at.row) (own_side l.at.mask (rows l.at.row).entry.key))
 unfolding pushing
 passes_push_is rows count l goes =
     let p : Passing rows count l.at = push_passing rows count l.at goes in
     passes_row rows pushing count stage_at l _ p (rw (ne_eqb _ 0 (push_linked rows count l.at goes), lt-ltb _ _ p.used)) refl
     (λ w on m e. ap to (sym (own_turn l.at.mask m _ (on.stands.mask ∙ rw e))))
+
+pub pushed_follows : (rows : ℕ → Rows.Row) (count : ℕ) (l m : Leg) → past_pushed rows count l ≡ Some m
+    → Follows rows pushing count stage_at l m
+pushed_follows rows count l m e =
+    let goes = past_true _ _ m e in
+    rw goes.1 (passes_push_is rows count l goes.0)
+
+pub pushed_stops : (rows : ℕ → Rows.Row) (count : ℕ) (l : Leg) → past_pushed rows count l ≡ None → passes_push rows count l.at ≡ false
+pushed_stops rows count l e = past_false _ _ e
 
 -- the walk ends where a push stops
 pub push_ends : (rows : ℕ → Rows.Row) (count : ℕ) (l r : Leg)
@@ -366,10 +375,10 @@ push_ends rows count l r g w on at =
         no_bits r.at v.walk v.on.stands (eqb-true r.at.mask 0 (not_false _ (rw (there, used, judged) at g.stopped)))
 
     by_row : (a b : Bool) → eqb r.at.row 0 ≡ a → ltb r.at.row count ≡ b
-        → LegEnds rows pushing count v.walk r (if a then None else if b && judges r.at here then Row here else Damage)
-    by_row true b none used = ends_at_link rows pushing count r v.walk None v.on (v.stage ∙ rw (← v.on.stands.row, none))
+        → LegEnds rows pushing count v.walk r (if a then Ok None else as_end (if b && judges r.at here then Ok here else damage))
+    by_row true b none used = ends_at_link rows pushing count r v.walk (Ok None) v.on (v.stage ∙ rw (← v.on.stands.row, none))
     by_row false false there unused =
-        ends_at_link rows pushing count r v.walk Damage v.on (v.stage ∙ rw (← v.on.stands.row, there, unused))
+        ends_at_link rows pushing count r v.walk damage v.on (v.stage ∙ rw (← v.on.stands.row, there, unused))
     by_row false true there used =
         ends_here rows pushing count r v.walk v.on (v.stage ∙ rw (← v.on.stands.row, there, used))
         (to (side (pred v.walk.bits) here.entry.key)) (λ m e. rw e)

@@ -10,12 +10,14 @@ pub mod Unfolding
 pub mod Walking
 pub mod Ended
 pub mod Resuming
--- the seek: its turn, its numbers, its step (`sought`); where it stopped (`seek_ends` and `place_stands`, for every call on a word)
+-- the seek: its turn, its numbers, its step (`sought`); where it stopped (`seek_ends` and `place_stands`); what a call on a word gets
 pub mod SeekTurn
 pub mod Between
 pub mod SeekWalk
 pub mod Sought
+pub mod WordWay
 -- the other legs: a place judges a row (`judges_alike`, `below_stands`); `down` and `pushed` (`down_ends`, `push_ends`)
+pub mod Damaged
 pub mod Places
 pub mod DownTurn
 pub mod Legs
@@ -32,17 +34,17 @@ pub mod Nearest
 -- `add`: the push and its loop; the outcome; a displaced key
 pub mod Pushing
 pub mod Adding
+mod Hooks
 pub mod Displacing
 -- `del`: the loop that moves the keys up; a key that is no word; the stretch, the second way and the outcome
 pub mod Raising
 pub mod EndKeys
 pub mod Erasing
--- `audit` and `list`: `row_counted` and `row_listed`; the whole table
+-- `audit` and `list`: `rows_from` and `row_listed`; the whole table
 pub mod Parts
 pub mod WholeTable
 -- the starred examples of document 01: a test for `Sound`; all examples hold
 pub mod SoundTest
 pub mod Starred
--- small laws for proofs of functions: tests of a side and of a row; the cases of `End`
+-- small laws for proofs of functions: the test of a side; what a result tells of damage
 pub mod Tests
-pub mod EndTags

@@ -1,39 +1,38 @@
 -- The reply of `gap`, from those of `prev` and `next` and the end of the way of the word.
-use Prim.Native.Nat.{ℕ, ◌+◌, ◌-◌, ◌≤◌, ◌<◌}
+use Prim.Native.Nat.{ℕ, ◌+◌, ◌-◌, ◌≤◌}
 use mathlib.Core.Path.{◌≡◌, refl, sym, ap, ◌∙◌, subst}
 use mathlib.Core.Bool.{Bool, true, false, ◌||◌, or_assoc}
 use mathlib.Core.List.{List, [], ◌∷◌, ◌++◌}
 use native.Mathlib.Nat.{add-zero}
 use native.Mathlib.Omega.{arith}
 use lib.Dec.{eqb}
-use Rattle.std.specs.Prelude.{if◌then◌else◌}
-use Rattle.ordered.specs.Such.{Perhaps, such, no_such, its, only_if, last_such}
+use Rattle.std.specs.Prelude.{if◌then◌else◌, Ok, Err, Some, None, Option, Result}
+use Rattle.ordered.specs.Such.{Perhaps, such, no_such, its, only_if}
 use Rattle.ordered.specs.Word.{right}
 use Rattle.ordered.specs.Tree.{Tree}
-use Rattle.ordered.specs.Way.{Way, Step, way, rows, broken, following, passing_equal, down}
+use Rattle.ordered.specs.Way.{Way, Step, way, broken, following, down}
 use Rattle.ordered.specs.Reading.{Found, word_in, passed_row, Reading, rows_of, broken_in, root_row, end_if, to_its_end, skipped_left, prev_by, nearest, gap_by, has, prev, next, gap}
 use Rattle.ordered.proofs.Rows.{rows_append, prev_rows, next_rows}
 use Rattle.pretree.specs.declared.Header.{Header}
 use Rattle.pretree.specs.declared.Answer.{Answer}
-use Rattle.pretree.specs.declared.Answer.TheVariants.{Distance, Damage, NoSuchWord}
+use Rattle.pretree.specs.declared.Answer.TheVariants.{Distance, Damage}
 use Rattle.pretree.specs.declared.Reply.{Reply}
-use Rattle.pretree.specs.declared.gap.Neighbour.{Neighbour}
-use Rattle.pretree.specs.declared.leg.End.{End}
-use Rattle.pretree.specs.declared.leg.End as Ends
+use Rattle.pretree.specs.declared.Row.{Row}
 use Rattle.pretree.specs.declared.seek.Seek.{Seek}
 use Rattle.pretree.specs.Table.{row_at}
 use Rattle.pretree.specs.Unfold.{shown}
 use Rattle.pretree.specs.Reply.{wrong_header, too_wide, refused, answered}
 use Rattle.pretree.specs.Find.{saying, word, prev_reply, next_reply, gap_reply}
-use Rattle.pretree.specs.Gap.{neighbour, from_both, between}
+use Rattle.pretree.specs.declared.leg.Damaged.{Damaged}
+use Rattle.pretree.specs.Gap.{neighbour, distance, gap_at, between}
 use Rattle.pretree.specs.Walk.{Walk, Stage, seeking, Walked}
-use Rattle.pretree.specs.Leg.{EndsAs}
-use Rattle.pretree.specs.Seek.{bits_left_by, end_at, Sought, SeekEnds}
+use Rattle.pretree.specs.Leg.{EndsAs, End, damage}
+use Rattle.pretree.specs.Seek.{bits_left_by, WayEnds, Refused, by_header, by_word, by_damage}
 use Rattle.pretree.proofs.Checks.{right_header}
 use Rattle.pretree.proofs.Ended.{ends_in, way_end, way_rows}
 use Rattle.pretree.proofs.SeekTurn.{following_is}
-use Rattle.pretree.proofs.Sought.{seek_ends, bits_are}
-use Rattle.pretree.proofs.Found.{empty_way}
+use Rattle.pretree.proofs.Sought.{bits_are}
+use Rattle.pretree.proofs.WordWay.{by_way}
 
 -- the reply of a reading call, once the checks are passed
 abbrev reply_with : {A : Type 0} → Header → (A → Answer) → Reading A → Reply
@@ -41,12 +40,11 @@ reply_with h answer r =
     if broken_in r.ways then refused h Damage
     else answered h (saying answer r.answer) (rows_of r.ways)
 
--- `between`, from the neighbours that the replies p and n give
-pub between_is : (h : Header) (k : ℕ) (p n : Reply) {p' n' : Reply} {lower upper : Neighbour} → p ≡ p' → n ≡ n'
-    → neighbour p.answer ≡ lower → upper ≡ neighbour n.answer
-    → from_both h k (p.rows + n.rows) lower upper ≡ between h k p' n'
+-- `between`, from the distance that the replies p and n give
+pub between_is : (h : Header) (k : ℕ) (p n : Reply) {p' n' : Reply} → p ≡ p' → n ≡ n' → (d : Result (Option ℕ) Damaged)
+    → d ≡ distance k (neighbour p.answer) (neighbour n.answer) → gap_at h (p.rows + n.rows) d ≡ between h k p' n'
 unfolding between
-between_is h k p n below above low up = rw (← below, ← above, low, up)
+between_is h k p n below above d is = rw (← below, ← above, is)
 
 broken_append : (vs ws : List Way) → broken_in (vs ++ ws) ≡ (broken_in vs || broken_in ws)
 unfolding broken_in
@@ -74,12 +72,11 @@ module _ (h : Header) (k : ℕ) (p n : Reading Found) where
       go false false (such x) (such y) = refl
 
 -- `gap` of k, by the end of its way: n rows were passed
-abbrev pub gap_reply_by : Header → List ℕ → ℕ → ℕ → End → Reply
-gap_reply_by h table k n Ends.TheVariants.None = between h k (prev_reply h table k) (next_reply h table k)
-gap_reply_by h table k n (Ends.TheVariants.Row r) =
+abbrev pub gap_reply_by : Header → List ℕ → ℕ → ℕ → Option Row → Reply
+gap_reply_by h table k n None = between h k (prev_reply h table k) (next_reply h table k)
+gap_reply_by h table k n (Some r) =
     if eqb k r.entry.key then answered h (Distance 0) (n + 1)
     else between h k (prev_reply h table k) (next_reply h table k)
-gap_reply_by h table k n Ends.TheVariants.Damage = refused h Damage
 
 -- the first way of `prev` is the way of k, so damage there breaks `prev`
 prev_broken : (w : Way) (a : Perhaps Found) (p : Perhaps Step) → broken w ≡ true → broken_in (prev_by w a p).ways ≡ true
@@ -150,13 +147,13 @@ module _ (h : Header) (table : List ℕ) (k : ℕ) (fine : wrong_header h table 
     damaged_below b = rw (broken_append lower.ways upper.ways, prev_broken (way (following k) h.width (shown h table)) _ _ (rw (following_is k) b))
 
     abbrev Says : End → Stage → Type 0
-    Says e stage = by_found (only_if (λ f. eqb k (word_in f)) (root_row way_of_k.bits (ends_in (row_at table) w stage))) ≡ gap_reply_by h table k (h.width - w.bits) e
+    Says e stage = by_found (only_if (λ f. eqb k (word_in f)) (root_row way_of_k.bits (ends_in (row_at table) w stage))) ≡ by_way h (gap_reply_by h table k (h.width - w.bits)) e
 
     by_end : (e : End) → EndsAs (row_at table) w e → way_of_k.end ≡ ends_in (row_at table) w w.stage → Says e w.stage
     unfolding by_found broken broken_in rows_of
-    by_end Ends.TheVariants.None at ends = subst (Says Ends.TheVariants.None) (sym at) (sym absent)
-    by_end Ends.TheVariants.Damage at ends = subst (Says Ends.TheVariants.Damage) (sym at) (damaged_below (rw (ends, at)))
-    by_end (Ends.TheVariants.Row r) so ends = subst (Says (Ends.TheVariants.Row r)) (sym so.0) (rw (← ap (λ e. e.key) so.2) (by_key (eqb k w.entry.key)))
+    by_end (Ok None) at ends = subst (Says (Ok None)) (sym at) (sym absent)
+    by_end (Err d) at ends = subst (Says damage) (sym at) (damaged_below (rw (ends, at)))
+    by_end (Ok (Some r)) so ends = subst (Says (Ok (Some r))) (sym so.0) (rw (← ap (λ e. e.key) so.2) (by_key (eqb k w.entry.key)))
       where
         whole : broken way_of_k ≡ false
         whole = rw (ends, so.0)
@@ -170,20 +167,20 @@ module _ (h : Header) (table : List ℕ) (k : ℕ) (fine : wrong_header h table 
         by_key true = there
         by_key false = sym absent
 
-    gap_ends : (e : End) → EndsAs (row_at table) w e → gap_reply h table k ≡ gap_reply_by h table k (h.width - w.bits) e
+    gap_ends : (e : End) → EndsAs (row_at table) w e → gap_reply h table k ≡ by_way h (gap_reply_by h table k (h.width - w.bits)) e
     gap_ends e so =
         at_end
         ∙ ap (λ (end : Tree). by_found (only_if (λ f. eqb k (word_in f)) (root_row way_of_k.bits end))) (way_end _ _ _ _ _ w gone).end
         ∙ by_end e so (way_end _ _ _ _ _ w gone).end
 
-  -- where its seek stopped
-  pub gap_sought : (s : Seek) → Sought (row_at table) h (shown h table) k s → 0 < h.count
-      → gap_reply h table k ≡ gap_reply_by h table k (h.width - bits_left_by s.mask) (end_at (row_at table) h.count k s)
-  gap_sought s g some =
-      let e : SeekEnds (row_at table) h (shown h table) k s (end_at (row_at table) h.count k s) = seek_ends table h k fine small s g some in
-      rw (bits_are table h k fine small s (end_at (row_at table) h.count k s) e) (gap_ends e.walk e.walked (end_at (row_at table) h.count k s) e.ends)
+-- the reply of `gap`, by the way of its word, and where it is refused
+pub gap_way : {h : Header} {table : List ℕ} {k : ℕ} {s : Seek} {e : End} → WayEnds h table k s e
+    → by_way h (gap_reply_by h table k (h.width - bits_left_by s.mask)) e ≡ gap_reply h table k
+gap_way {h} {table} {k} {s} {e} q =
+    rw (bits_are table h k q.fine q.small s e q.ends) (sym (gap_ends h table k q.fine q.small q.ends.walk q.ends.walked e q.ends.ends))
 
-  -- in an empty set there is no nearest word
-  pub none_near : h.count ≡ 0 → answered h NoSuchWord 0 ≡ gap_reply h table k
-  unfolding gap_reply gap has prev next broken_in broken rows_of rows last_such
-  none_near empty = simp (fine, small, empty_way h table (following k) empty, empty_way h table (passing_equal k) empty)
+pub gap_refused : {h : Header} {table : List ℕ} {k : ℕ} {a : Answer} → Refused h table k a → refused h a ≡ gap_reply h table k
+unfolding gap_reply
+gap_refused (by_header e) = rw e
+gap_refused (by_word e f) = rw (e, f)
+gap_refused (by_damage q) = gap_way q

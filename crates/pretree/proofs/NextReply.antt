@@ -3,32 +3,31 @@ use Prim.Native.Nat.{ℕ, suc, pred, ◌+◌, ◌*◌, ◌-◌, ◌/◌, ◌%◌
 use mathlib.Core.Path.{◌≡◌, refl, sym, ap, ◌∙◌, subst}
 use mathlib.Core.Bool.{Bool, true, false, not, ◌&&◌}
 use mathlib.Core.List.{List}
-use native.Mathlib.Nat.{suc-ne-zero, pos_of_ne-zero, sub_self, lt_of_lt_of_le}
+use native.Mathlib.Nat.{suc-ne-zero, pos_of_ne-zero, lt_of_lt_of_le}
 use native.Mathlib.Omega.{arith}
 use lib.Bits.{bit_and}
 use lib.Dec.{ltb, leb, eqb}
 use lib.Pow.{pow_mono, ones_lt}
 use borrow.Author.Tests.{le-ltb, lt-leb, eq-eqb, ne_eqb, ltb-true, ltb-false, eqb-true, eqb-false}
-use Rattle.std.specs.Prelude.{if◌then◌else◌}
-use Rattle.ordered.specs.Word.{Side, left, right, side_of, bit_of, side}
+use Rattle.std.specs.Prelude.{if◌then◌else◌, Ok, Err, Some, None}
+use Rattle.ordered.specs.Word.{Side, left, right, bit_of, side}
 use Rattle.ordered.specs.Way.{to}
 use Rattle.ordered.proofs.Bits.{next_bit}
 use Rattle.ordered.proofs.Ways.{and_true}
 use Rattle.pretree.specs.declared.Header.{Header}
 use Rattle.pretree.specs.declared.Row as Rows
-use Rattle.pretree.specs.declared.leg.End.{End}
-use Rattle.pretree.specs.declared.leg.End.TheVariants.{None, Row, Damage}
 use Rattle.pretree.specs.declared.seek.Seek.{Seek}
 use Rattle.pretree.specs.Table.{entry_of, row_words, row_at, link}
 use Rattle.pretree.specs.Unfold.{ends_there, shown}
-use Rattle.pretree.specs.declared.Answer.TheVariants.{Word, NoSuchWord}
-use Rattle.pretree.specs.Reply.{wrong_header, too_wide, answered}
+use Rattle.pretree.specs.declared.Answer.{Answer}
+use Rattle.pretree.specs.declared.Answer.TheVariants.{Word, Damage}
+use Rattle.pretree.specs.Reply.{wrong_header, too_wide, refused, answered}
 use Rattle.pretree.specs.Find.{next_reply}
 use Rattle.pretree.specs.Found.{next_found_from, aside_from}
-use Rattle.pretree.specs.Leg.{EndsAs}
-use Rattle.pretree.specs.Seek.{row_of, bits_left_by, turn, stepped, end_of, end_at, aside_of, span_of, Sought, SeekEnds}
+use Rattle.pretree.specs.Leg.{EndsAs, End}
+use Rattle.pretree.specs.Seek.{row_of, bits_left_by, turn, stepped, aside_of, span_of, SeekEnds, Tells, WayEnds, Refused, by_header, by_word, by_damage}
 use Rattle.pretree.specs.Next.{next_from, next_at}
-use Rattle.pretree.specs.Walk.{Walk, Stage, AtNone, AtRow, AtDamage, is_on, end_read, started, stage_at, holds, ended, remembering, passed, turned, met, seeking, seek_turn, Placed, Walking, Walked}
+use Rattle.pretree.specs.Walk.{Walk, Stage, AtNone, AtRow, AtDamage, is_on, end_read, stage_at, holds, ended, remembering, passed, turned, met, seeking, seek_turn, Placed, Walking, Walked}
 use Rattle.pretree.specs.Resume.{again, resumed}
 use Rattle.pretree.proofs.Writing.{row_back}
 use Rattle.pretree.proofs.Between.{half_mask, turns_so, next_rest}
@@ -36,45 +35,8 @@ use Rattle.pretree.proofs.Checks.{right_header}
 use Rattle.pretree.proofs.Neighbours.{next_at_is}
 use Rattle.pretree.proofs.NextWord.{ShowsNext, reply_by, aside_reply, from_link}
 use Rattle.pretree.proofs.PassingEqual.{passes_on, stops_past, takes_on}
-use Rattle.pretree.proofs.Walking.{begins_root}
-use Rattle.pretree.proofs.Sought.{seek_ends, bits_are}
-
--- what the end of a seek tells: at an empty link its next row is 0, and a row at which it ends has a key of k or more
-module _ (rows : ℕ → Rows.Row) (count k : ℕ) (s : Seek) where
-  abbrev there : Rows.Row
-  there = rows (row_of s)
-
-  abbrev Tells : End → Type 0
-  Tells None = row_of s ≡ 0
-  Tells (Row r) = k ≤ there.entry.key
-  Tells Damage = Unit {0}
-
-  end_tells : Tells (end_at rows count k s)
-  end_tells = by_count (ltb (row_of s) count)
-    where
-      no_row : (a b : Bool) → eqb (row_of s) 0 ≡ a → Tells (if a && b then None else Damage)
-      no_row true true e = eqb-true (row_of s) 0 e
-      no_row true false e = tt
-      no_row false b e = tt
-
-      not_less : (a b c : Bool) → k ≤ there.entry.key → Tells (if a then (if b then Damage else Row there) else if c then Damage else Row there)
-      not_less true true c e = tt
-      not_less true false c e = e
-      not_less false b true e = tt
-      not_less false b false e = e
-
-      by_key : (a : Bool) → ltb there.entry.key k ≡ a
-          → Tells
-          (if a then (if eqb (row_of s) 0 && not (eqb s.between k) then None else Damage)
-          else if ltb k there.entry.key then (if ltb (s.mask - s.tail) (there.entry.key - k) then Damage else Row there)
-          else if eqb s.mask 0 && not (eqb there.left 0 && eqb there.right 0) then Damage
-          else Row there)
-      by_key true e = no_row (eqb (row_of s) 0) (not (eqb s.between k)) refl
-      by_key false e = not_less (ltb k there.entry.key) (ltb (s.mask - s.tail) (there.entry.key - k)) (eqb s.mask 0 && not (eqb there.left 0 && eqb there.right 0)) (ltb-false there.entry.key k e)
-
-      by_count : (a : Bool) → Tells (if a then end_of s k there else Damage)
-      by_count true = by_key (ltb there.entry.key k) refl
-      by_count false = tt
+use Rattle.pretree.proofs.Sought.{bits_are}
+use Rattle.pretree.proofs.WordWay.{by_way}
 
 -- Where the walk w ended at a row with key k and m + 1 bits left, the seek s goes one row further down with it.
 module _ (rows : ℕ → Rows.Row) (k : ℕ) (s : Seek) (w : Walk) (m : ℕ) (bits : w.bits ≡ suc m) (mask : s.mask ≡ 2 ^ w.bits - 1)
@@ -87,6 +49,7 @@ module _ (rows : ℕ → Rows.Row) (k : ℕ) (s : Seek) (w : Walk) (m : ℕ) (bi
   abbrev stepped_to : Bool → Side → Seek
   stepped_to leaves σ =
       record {
+        word = s.word;
         at = row_words * link here σ;
         mask = s.mask / 2;
         tail = bit_and s.tail (s.mask / 2);
@@ -125,11 +88,11 @@ module _ (rows : ℕ → Rows.Row) (k : ℕ) (s : Seek) (w : Walk) (m : ℕ) (bi
       }
 
   -- to the side of k's next bit
-  shows_stepped : ShowsNext rows k (stepped s (link here (side_of (turn s))) here.right) (turned (resumed w) here (to (side m k)))
+  shows_stepped : ShowsNext rows k (stepped s (link here (turn s)) here.right) (turned (resumed w) here (to (side m k)))
   unfolding turned
   shows_stepped = go (ltb (s.mask / 2) s.tail) (side m k) turns refl
     where
-      turns : (if ltb (s.mask / 2) s.tail then 1 else 0) ≡ bit_of (side m k)
+      turns : turn s ≡ side m k
       turns = rw (mask, tail, bits) (turns_so m k)
 
       to_left : (c : Bool) → eqb here.right 0 ≡ c → side m k ≡ left
@@ -137,11 +100,11 @@ module _ (rows : ℕ → Rows.Row) (k : ℕ) (s : Seek) (w : Walk) (m : ℕ) (bi
       to_left true none_right e = shows_past (resumed w) left (stepped_to false left) e bits refl (row_back _) refl refl aside span
       to_left false some_right e = shows_past (remembering (resumed w)) left (stepped_to true left) e bits refl (row_back _) refl refl refl (rw bits half)
 
-      go : (b : Bool) (σ : Side) → (if b then 1 else 0) ≡ bit_of σ → side m k ≡ σ
-          → ShowsNext rows k (stepped_to (not b && not (eqb here.right 0)) (side_of (if b then 1 else 0))) (turned (resumed w) here (to σ))
+      go : (b : Bool) (σ : Side) → (if b then right else left) ≡ σ → side m k ≡ σ
+          → ShowsNext rows k (stepped_to (not b && not (eqb here.right 0)) (if b then right else left)) (turned (resumed w) here (to σ))
       go true right t e = shows_past (resumed w) right (stepped_to false right) e bits refl (row_back _) refl refl aside span
-      go true left t e = absurd (suc-ne-zero 0 t)
-      go false right t e = absurd (suc-ne-zero 0 (sym t))
+      go true left t e = cc
+      go false right t e = cc
       go false left t e = to_left (eqb here.right 0) refl e
 
 -- at a row without a right link nothing new is remembered
@@ -175,7 +138,7 @@ module _ (h : Header) (table : List ℕ) (k : ℕ) (fine : wrong_header h table 
     onward : Walking rows (seeking (suc k) k) h.width h.count (shown h table) (resumed w)
     onward = passes_on rows k h.width h.count (shown h table) w g.walked
 
-    at_damage : w.stage ≡ AtDamage → next_reply h table k ≡ next_at h rows k s Damage
+    at_damage : w.stage ≡ AtDamage → next_reply h table k ≡ refused h Damage
     at_damage at =
         next_at_is h table k (resumed w) fine small (record { walking = onward; ended = ap (λ (st : Stage). is_on (again st)) at })
         ∙ ap (λ (st : Stage). next_found_from h rows k (again st) w.entry.key (h.width - w.bits + end_read (again st)) w.has_aside w.aside_bits w.aside) at
@@ -239,7 +202,7 @@ module _ (h : Header) (table : List ℕ) (k : ℕ) (fine : wrong_header h table 
           rw (judged, some, not_past) (ap (λ (b : ℕ). turned (resumed w) (rows w.row) (to (side (pred b) k))) bits)
 
       abbrev stepped_on : Seek
-      stepped_on = stepped s (link (rows w.row) (side_of (turn s))) (rows w.row).right
+      stepped_on = stepped s (link (rows w.row) (turn s)) (rows w.row).right
 
       abbrev rows_read : ℕ
       rows_read = h.width - w.bits + 1
@@ -259,7 +222,7 @@ module _ (h : Header) (table : List ℕ) (k : ℕ) (fine : wrong_header h table 
           let walked : Walked rows (seeking (suc k) k) h.width h.count (shown h table) ended_here
           = record { walking = subst (Walking rows (seeking (suc k) k) h.width h.count (shown h table)) (stops_below none_left) walks; ended = refl } in
           reply_here (stops_below none_left) ∙ not_greater
-          ∙ aside_reply h table k fine small ended_here walked stepped_on (row_back _ ∙ no_link none_left (side_of (turn s))) rows_read
+          ∙ aside_reply h table k fine small ended_here walked stepped_on (row_back _ ∙ no_link none_left (turn s)) rows_read
           (as_before (ltb (s.mask / 2) s.tail) _ _ _ none_right ∙ g.aside)
           (as_before (ltb (s.mask / 2) s.tail) _ _ _ none_right ∙ g.span)
         where
@@ -280,7 +243,7 @@ module _ (h : Header) (table : List ℕ) (k : ℕ) (fine : wrong_header h table 
           from_link h table k fine small v down stepped_on (shows_stepped rows k s w m bits g.mask g.tail g.path g.aside g.span equal)
           ∙ ap (next_from h rows k stepped_on) one_less
 
-      at_row : next_reply h table k ≡ next_at h rows k s (Row (rows w.row))
+      at_row : next_reply h table k ≡ next_at h rows k s (Some (rows w.row))
       at_row = rw passed_so_far (by_key (ltb k key) refl)
         where
           by_bits : (b : Bool) → eqb w.bits 0 ≡ b → key ≡ k → next_reply h table k ≡ next_from h rows k stepped_on rows_read
@@ -292,38 +255,33 @@ module _ (h : Header) (table : List ℕ) (k : ℕ) (fine : wrong_header h table 
           by_key true c = reply_here (stops_greater (ltb-true k key c)) ∙ rw c
           by_key false c = by_bits (eqb w.bits 0) refl (omega (arith, ltb-false k key c, past))
 
-    by_end : EndsAs rows w e → Tells rows h.count k s e → next_reply h table k ≡ next_at h rows k s e
+    by_end : EndsAs rows w e → Tells rows k s e → next_reply h table k ≡ by_way h (next_at h rows k s) e
     by_end = go e
       where
-        go : (e : End) → EndsAs rows w e → Tells rows h.count k s e → next_reply h table k ≡ next_at h rows k s e
-        go None at tells = at_none at tells
-        go (Row r) at tells =
+        go : (e : End) → EndsAs rows w e → Tells rows k s e → next_reply h table k ≡ by_way h (next_at h rows k s) e
+        go (Ok None) at tells = at_none at tells
+        go (Ok (Some r)) at tells =
             let past : k ≤ (rows w.row).entry.key = rw g.row at tells in
-            at_row at.0 past ∙ ap (λ (r : Rows.Row). next_at h rows k s (Row r)) (sym at.1)
-        go Damage at tells = at_damage at
+            at_row at.0 past ∙ ap (λ (r : Rows.Row). next_at h rows k s (Some r)) (sym at.1)
+        go (Err d) at tells = at_damage at
 
-  -- the reply of `next`, by the end of the seek
-  pub next_by_seek : 0 < h.count → Sought rows h (shown h table) k s → next_reply h table k ≡ next_at h rows k s (end_at rows h.count k s)
-  next_by_seek some sought =
-      let g = seek_ends table h k fine small s sought some in
-      by_end (end_at rows h.count k s) g g.ends (end_tells rows h.count k s)
+-- the reply of `next`, by the way of its word, and where it is refused
+module _ {h : Header} {table : List ℕ} {k : ℕ} {s : Seek} {e : End} (q : WayEnds h table k s e) where
+  pub next_way : by_way h (next_at h (row_at table) k s) e ≡ next_reply h table k
+  next_way = sym (by_end h table k q.fine q.small s e q.ends q.ends.ends q.tells)
 
   -- at the remembered right link fewer than 32 bits are left
-  pub span_few : 0 < h.count → Sought rows h (shown h table) k s → s.span < 2 ^ 31
-  span_few some sought =
-      let g = seek_ends table h k fine small s sought some in
-      rw g.span (go g.walk.has_aside g.walked.walking.memory.aside_used)
+  pub span_few : s.span < 2 ^ 31
+  span_few = rw q.ends.span (go q.ends.walk.has_aside q.ends.walked.walking.memory.aside_used)
     where
       go : {i n m : ℕ} (has_aside : Bool) → (has_aside ≡ true → (i < n) × (m < h.width)) → span_of has_aside m < 2 ^ 31
       go false used = omega arith
       go {m} true used =
-          let few : m ≤ 31 = omega (arith, (used refl).1, (right_header h table fine).at_most_32) in
+          let few : m ≤ 31 = omega (arith, (used refl).1, (right_header h table q.fine).at_most_32) in
           lt_of_lt_of_le (ones_lt m) (pow_mono few)
 
--- with a count of 0 the way is empty
-pub next_of_none : (h : Header) (table : List ℕ) (k : ℕ) → wrong_header h table ≡ false → too_wide h k ≡ false → h.count ≡ 0
-    → next_reply h table k ≡ answered h NoSuchWord 0
-next_of_none h table k fine small empty =
-    let none_used : eqb h.count 0 ≡ true = eq-eqb h.count 0 empty in
-    next_at_is h table k (started h) fine small (record { walking = begins_root h table (seeking (suc k) k); ended = rw none_used })
-    ∙ rw (none_used, sub_self h.width)
+pub next_refused : {h : Header} {table : List ℕ} {k : ℕ} {a : Answer} → Refused h table k a → refused h a ≡ next_reply h table k
+unfolding next_reply
+next_refused (by_header e) = rw e
+next_refused (by_word e f) = rw (e, f)
+next_refused (by_damage q) = next_way q

@@ -11,7 +11,7 @@ use lib.Bits.{bit_and, bit_or, and_mask, or_shifted}
 use lib.Dec.{ltb, leb, eqb}
 use lib.Pow.{split, pow-lt, pow_mono, suc_ones}
 use borrow.Author.Tests.{lt-ltb, le-leb, ne_eqb, leb-true, eqb-true, eqb-false}
-use Rattle.std.specs.Prelude.{if◌then◌else◌}
+use Rattle.std.specs.Prelude.{if◌then◌else◌, Ok, None}
 use Rattle.ordered.specs.Word.{left, side}
 use Rattle.ordered.specs.Tree.{none}
 use Rattle.ordered.specs.Way.{way, broken, staying}
@@ -21,7 +21,6 @@ use Rattle.ordered.proofs.Ways.{and_true}
 use Rattle.pretree.specs.declared.Header.{Header}
 use Rattle.pretree.specs.declared.Row.{Row}
 use Rattle.pretree.specs.declared.Reply.{Reply}
-use Rattle.pretree.specs.declared.leg.End as Ends
 use Rattle.pretree.specs.declared.leg.Place.{Place}
 use Rattle.pretree.specs.declared.seek.Seek.{Seek}
 use Rattle.pretree.specs.Table.{entry_of, row_at}
@@ -29,7 +28,7 @@ use Rattle.pretree.specs.Unfold.{ends_there, judged, linked, unfolded, shown}
 use Rattle.pretree.specs.Reply.{wrong_header, too_wide}
 use Rattle.pretree.specs.Find.{next_reply}
 use Rattle.pretree.specs.Found.{word_by, then_by, aside_from, next_found_from}
-use Rattle.pretree.specs.Leg.{judges, row_end, link_end, Stands}
+use Rattle.pretree.specs.Leg.{judges, row_end, link_end, Stands, damage, as_end}
 use Rattle.pretree.specs.Seek.{row_of, aside_of, span_of}
 use Rattle.pretree.specs.Next.{next_place, next_from}
 use Rattle.pretree.specs.Walk.{Walk, On, AtNone, AtRow, AtDamage, is_on, rows_read_by, stage_at, started_at, holds, ended, met, step_at, remembered, seeking, seek_turn, Walking, Walked}
@@ -49,7 +48,7 @@ module _ (h : Header) (rows : ℕ → Row) (n m path low : ℕ) (p : Place)
     where
       by_row : (i : ℕ) → p.row ≡ i
           → then_by h n (way staying m (linked (unfolded rows h.count m path low) i))
-          ≡ word_by h n (if eqb i 0 then Ends.TheVariants.None else row_end rows h.count p)
+          ≡ word_by h n (if eqb i 0 then Ok None else as_end (row_end rows h.count p))
       by_row zero e = rw (stays m none, add-zero n)
       by_row (suc i) e = rw (ne_eqb (suc i) 0 (suc-ne-zero i), ← e) (row_read h n rows h.count m path low p alike)
 
@@ -194,7 +193,7 @@ module _ (h : Header) (table : List ℕ) (k : ℕ) (fine : wrong_header h table 
 
     -- what the code finds at the row
     found_there : (v.row ≡ 0 → ⊥)
-        → next_from h (row_at table) k s n ≡ word_by h n (if ltb v.row h.count && holds v r then Ends.TheVariants.Row r else Ends.TheVariants.Damage)
+        → next_from h (row_at table) k s n ≡ word_by h n (as_end (if ltb v.row h.count && holds v r then Ok r else damage))
     found_there some =
         let there : next_place s k ≡ child_place = rw (shows.row, ne_eqb v.row 0 some) in
         ap (λ (p : Place). word_by h n (link_end (row_at table) h.count p)) there
@@ -202,7 +201,7 @@ module _ (h : Header) (table : List ℕ) (k : ℕ) (fine : wrong_header h table 
 
     -- and what the walk does
     by_child : (v.row ≡ 0 → ⊥) → is_on v.stage ≡ true → (b : Bool) → holds v r ≡ b
-        → next_reply h table k ≡ word_by h n (if b then Ends.TheVariants.Row r else Ends.TheVariants.Damage)
+        → next_reply h table k ≡ word_by h n (as_end (if b then Ok r else damage))
     by_child some on b judged =
         let onward = takes_on (row_at table) (suc k) k h.width h.count (shown h table) v on walking in
         next_at_is h table k _ fine small (record { walking = onward; ended = rw (met_there some b judged) (off b) })
@@ -213,7 +212,7 @@ module _ (h : Header) (table : List ℕ) (k : ℕ) (fine : wrong_header h table 
         off true = refl
         off false = refl
 
-        said : (b : Bool) → holds v r ≡ b → reply_by (ends_with b) ≡ word_by h n (if b then Ends.TheVariants.Row r else Ends.TheVariants.Damage)
+        said : (b : Bool) → holds v r ≡ b → reply_by (ends_with b) ≡ word_by h n (as_end (if b then Ok r else damage))
         said false judged = refl
         said true judged = rw (lt-ltb k r.entry.key (above_k some judged))
 

@@ -2,28 +2,23 @@
 use Prim.Native.Nat.{ℕ, zero, suc, ◌+◌, ◌*◌, ◌-◌, ◌/◌, ◌%◌, ◌^◌, ◌≤◌, ◌<◌}
 use mathlib.Core.Path.{◌≡◌, refl, sym, ap, ◌∙◌, subst}
 use mathlib.Core.Bool.{Bool, true, false, not, ◌&&◌}
-use mathlib.Core.List.{List, [], ◌∷◌}
+use mathlib.Core.List.{List}
 use native.Mathlib.Nat.{add-zero, le_of_lt, le_of_sub-eq-zero, suc-ne-zero, pos_of_ne-zero, suc-mul, mul_assoc, mul_comm, mul-le-mul_right, pow-suc}
 use native.Mathlib.Omega.{arith}
 use lib.Bits.{bit_and, and_mask}
 use lib.Dec.{ltb, eqb}
+use mir.Val.{bool_byte}
 use lib.Pow.{split, pow_pos, pow_mono, pow-add, shr_lt}
-use denote.Enum.Declared.{tag_of}
-use types.Run.{OneOf, miss}
 use borrow.Author.Tests.{lt-ltb, le-ltb, eq-eqb, ne_eqb}
-use Rattle.std.specs.Prelude.{if◌then◌else◌}
-use Rattle.ordered.specs.Such.{last_such}
+use Rattle.std.specs.Prelude.{if◌then◌else◌, is_some, Ok, Some, None, Option}
 use Rattle.ordered.specs.Word.{left, right, bit_of, side_of, is_side}
 use Rattle.ordered.specs.Tree.{Tree}
-use Rattle.ordered.specs.Way.{way, rows, broken, following, down}
-use Rattle.ordered.specs.Reading.{rows_of, broken_in, prev}
-use Rattle.pretree.specs.contracts.leg.End.{the_type}
+use Rattle.ordered.specs.Way.{way, down}
 use Rattle.pretree.specs.declared.Header.{Header}
+use Rattle.pretree.specs.declared.Answer.{Answer}
 use Rattle.pretree.specs.declared.Answer.TheVariants.{Word, Damage, NoSuchWord}
 use Rattle.pretree.specs.declared.Reply.{Reply}
 use Rattle.pretree.specs.declared.Row.{Row}
-use Rattle.pretree.specs.declared.leg.End.{End}
-use Rattle.pretree.specs.declared.leg.End as Ends
 use Rattle.pretree.specs.declared.seek.Seek.{Seek}
 use Rattle.pretree.specs.Table.{capacity, row_at}
 use Rattle.pretree.specs.Unfold.{linked, unfolded, shown}
@@ -31,40 +26,22 @@ use Rattle.pretree.specs.Reply.{wrong_header, too_wide, refused, answered}
 use Rattle.pretree.specs.Find.{prev_reply}
 use Rattle.pretree.specs.Found.{then_by, above_by, above_from, prev_from, greatest_by}
 use Rattle.pretree.specs.Walk.{Walk, AtNone, AtRow, AtDamage, started_at, tree_at, below, rows_read_by}
-use Rattle.pretree.specs.Leg.{Stands}
-use Rattle.pretree.specs.Seek.{row_of, above_of, bits_left_by, end_at, Sought, SeekEnds}
+use Rattle.pretree.specs.Leg.{Stands, End, damage}
+use Rattle.pretree.specs.Seek.{row_of, above_of, bits_left_by, SeekEnds, Tells, WayEnds, Refused, by_header, by_word, by_damage}
 use Rattle.pretree.specs.Prev.{rows_to, left_if_right, left_place}
 use Rattle.pretree.proofs.Checks.{right_header}
-use Rattle.pretree.proofs.Found.{empty_way}
 use Rattle.pretree.proofs.Neighbours.{prev_at}
-use Rattle.pretree.proofs.Sought.{seek_ends, bits_are}
-
--- the ends that are left where the code has tested for damage
-pub spared : (e : End) → OneOf (0 ∷ 1 ∷ []) (tag_of the_type e) → e ≡ Ends.TheVariants.Damage → ⊥
-spared Ends.TheVariants.None keys at = let z : ◌≡◌ {A = ℕ} 0 1 = cc in omega arith
-spared (Ends.TheVariants.Row r) keys at = let z : ◌≡◌ {A = ℕ} 0 1 = cc in omega arith
-spared Ends.TheVariants.Damage keys at = miss (0 ∷ 1 ∷ []) 2 tt keys
+use Rattle.pretree.proofs.Sought.{bits_are}
 
 -- the end of a way is at most one row more than it passed
-pub rows_to_few : (e : End) (n : ℕ) → n ≤ 32 → rows_to e n ≤ 33
-rows_to_few Ends.TheVariants.None n few = omega arith
-rows_to_few (Ends.TheVariants.Row r) n few = omega arith
-rows_to_few Ends.TheVariants.Damage n few = omega arith
+pub rows_to_few : (row : Option Row) (n : ℕ) → n ≤ 32 → rows_to row n ≤ 33
+rows_to_few None n few = omega arith
+rows_to_few (Some r) n few = omega arith
 
--- a row at which the way of k ends has a key of k or more
-module _ (rows : ℕ → Row) (count k : ℕ) (s : Seek) (r : Row) (e : end_at rows count k s ≡ Ends.TheVariants.Row r) where
-  nowhere : (c d : Bool)
-      → (if c then (if d then Ends.TheVariants.None else Ends.TheVariants.Damage) else Ends.TheVariants.Damage) ≡ Ends.TheVariants.Row r → ⊥
-  nowhere true true h = let z : ◌≡◌ {A = ℕ} 0 1 = cc in omega arith
-  nowhere true false h = let z : ◌≡◌ {A = ℕ} 0 1 = cc in omega arith
-  nowhere false d h = let z : ◌≡◌ {A = ℕ} 0 1 = cc in omega arith
-
-  not_less : ltb (rows (row_of s)).entry.key k ≡ false
-  not_less = go (ltb (rows (row_of s)).entry.key k) refl
-    where
-      go : (b : Bool) → ltb (rows (row_of s)).entry.key k ≡ b → b ≡ false
-      go false h = refl
-      go true h = absurd (nowhere (ltb (row_of s) count) (eqb (row_of s) 0 && not (eqb s.between k)) (rw h at e))
+-- as the code counts
+pub rows_to_is : (row : Option Row) (n : ℕ) → n + bool_byte (is_some row) ≡ rows_to row n
+rows_to_is None n = add-zero n
+rows_to_is (Some r) n = refl
 
 -- the walk that begins at the left part of a row, with m bits left there
 abbrev pub left_start : ℕ → Row → ℕ → Walk
@@ -111,11 +88,6 @@ no_left true l none = refl
 no_left false l none = none
 
 module _ (table : List ℕ) (h : Header) (k : ℕ) (fine : wrong_header h table ≡ false) (small : too_wide h k ≡ false) where
-  -- in an empty set there is no lesser word
-  pub nothing_less : h.count ≡ 0 → answered h NoSuchWord 0 ≡ prev_reply h table k
-  unfolding prev_reply prev broken_in broken rows_of rows last_such
-  nothing_less empty = rw (fine, small, empty_way h table (following k) empty)
-
   module _ (s : Seek) where
     abbrev bits : ℕ
     bits = bits_left_by s.mask
@@ -147,80 +119,70 @@ module _ (table : List ℕ) (h : Header) (k : ℕ) (fine : wrong_header h table 
           ∙ sym (same_last (rows_read_by g.walk h.width))
           ∙ sym (prev_at h table k g.walk fine small g.walked ∙ so)
 
-    at_none : EndsAt Ends.TheVariants.None → from_last (h.width - bits) ≡ prev_reply h table k
+    at_none : EndsAt (Ok None) → from_last (h.width - bits) ≡ prev_reply h table k
     at_none g =
         let at : g.walk.stage ≡ AtNone = g.ends in
         let read : h.width - bits ≡ rows_read_by g.walk h.width
-        = rw (at, same_bits Ends.TheVariants.None g) (sym (add-zero (h.width - g.walk.bits))) in
+        = rw (at, same_bits (Ok None) g) (sym (add-zero (h.width - g.walk.bits))) in
         let so : reply_by g.walk ≡ by_walk g.walk (rows_read_by g.walk h.width) = rw at in
-        replied Ends.TheVariants.None g (h.width - bits) read so
+        replied (Ok None) g (h.width - bits) read so
 
-    at_row : (r : Row) → EndsAt (Ends.TheVariants.Row r) → end_at (row_at table) h.count k s ≡ Ends.TheVariants.Row r
-        → from_last (h.width - bits + 1) ≡ prev_reply h table k
-    at_row r g is =
+    at_row : (r : Row) → EndsAt (Ok (Some r)) → k ≤ (row_at table (row_of s)).entry.key → from_last (h.width - bits + 1) ≡ prev_reply h table k
+    at_row r g past =
         let at : g.walk.stage ≡ AtRow = g.ends.0 in
         let key_is : g.walk.entry.key ≡ (row_at table (row_of s)).entry.key
         = ap (λ e. e.key) g.ends.2 ∙ ap (λ (q : Row). q.entry.key) (g.ends.1 ∙ ap (row_at table) (sym g.row)) in
-        let large : ltb g.walk.entry.key k ≡ false = rw key_is (not_less (row_at table) h.count k s r is) in
-        let read : h.width - bits + 1 ≡ rows_read_by g.walk h.width = rw (at, same_bits (Ends.TheVariants.Row r) g) in
+        let large : ltb g.walk.entry.key k ≡ false = rw key_is (le-ltb (row_at table (row_of s)).entry.key k past) in
+        let read : h.width - bits + 1 ≡ rows_read_by g.walk h.width = rw (at, same_bits (Ok (Some r)) g) in
         let so : reply_by g.walk ≡ by_walk g.walk (rows_read_by g.walk h.width) = rw (at, large) in
-        replied (Ends.TheVariants.Row r) g (h.width - bits + 1) read so
+        replied (Ok (Some r)) g (h.width - bits + 1) read so
 
-    at_damage : EndsAt Ends.TheVariants.Damage → refused h Damage ≡ prev_reply h table k
+    at_damage : EndsAt damage → refused h Damage ≡ prev_reply h table k
     at_damage g =
         let at : g.walk.stage ≡ AtDamage = g.ends in
         let so : reply_by g.walk ≡ refused h Damage = rw at in
         sym (prev_at h table k g.walk fine small g.walked ∙ so)
 
-    at_end : (e : End) → EndsAt e → e ≡ end_at (row_at table) h.count k s → (e ≡ Ends.TheVariants.Damage → ⊥)
-        → from_last (rows_to e (h.width - bits)) ≡ prev_reply h table k
-    at_end Ends.TheVariants.None g is whole = at_none g
-    at_end (Ends.TheVariants.Row r) g is whole = at_row r g (sym is)
-    at_end Ends.TheVariants.Damage g is whole = absurd (whole refl)
+    at_end : (row : Option Row) → EndsAt (Ok row) → Tells (row_at table) k s (Ok row) → from_last (rows_to row (h.width - bits)) ≡ prev_reply h table k
+    at_end None g tells = at_none g
+    at_end (Some r) g tells = at_row r g tells
 
--- where the seek s of k stopped, with e for the end of the way of k
-pub record Stopped (table : List ℕ) (h : Header) (k : ℕ) (s : Seek) (e : End) : Type 0 where
-  pub fine : wrong_header h table ≡ false
-  pub small : too_wide h k ≡ false
-  pub some : 0 < h.count
-  pub sought : Sought (row_at table) h (shown h table) k s
-  pub end_is : e ≡ end_at (row_at table) h.count k s
+-- where a call is refused
+pub prev_refused : {h : Header} {table : List ℕ} {k : ℕ} {a : Answer} → Refused h table k a → refused h a ≡ prev_reply h table k
+unfolding prev_reply
+prev_refused (by_header e) = rw e
+prev_refused (by_word e f) = rw (e, f)
+prev_refused {h} {table} {k} (by_damage {s} q) = at_damage table h k q.fine q.small s q.ends
 
-module _ {table : List ℕ} {h : Header} {k : ℕ} {s : Seek} {e : End} (g : Stopped table h k s e) where
+-- where the way of k ended without damage
+module _ {h : Header} {table : List ℕ} {k : ℕ} {s : Seek} {row : Option Row} (g : WayEnds h table k s (Ok row)) where
   abbrev left_bits : ℕ
   left_bits = bits_left_by s.mask
 
   abbrev read : ℕ
-  read = rows_to e (h.width - left_bits)
+  read = rows_to row (h.width - left_bits)
 
   abbrev last : Row
   last = row_at table (above_of s)
 
-  went : SeekEnds (row_at table) h (shown h table) k s e
-  went = subst (λ (x : End). SeekEnds (row_at table) h (shown h table) k s x) (sym g.end_is) (seek_ends table h k g.fine g.small s g.sought g.some)
-
-  bits_so : left_bits ≡ went.walk.bits
-  bits_so = same_bits table h k g.fine g.small s e went
+  bits_so : left_bits ≡ g.ends.walk.bits
+  bits_so = same_bits table h k g.fine g.small s (Ok row) g.ends
 
   abbrev reply_last : ℕ → Reply
   reply_last = from_last table h k g.fine g.small s
 
-  pub met_damage : e ≡ Ends.TheVariants.Damage → refused h Damage ≡ prev_reply h table k
-  met_damage at =
-      at_damage table h k g.fine g.small s (subst (λ (x : End). SeekEnds (row_at table) h (shown h table) k s x) at went)
-
-  -- without damage the last row that was passed gives the reply
-  ended_whole : (e ≡ Ends.TheVariants.Damage → ⊥) → reply_last read ≡ prev_reply h table k
-  ended_whole whole = at_end table h k g.fine g.small s e went g.end_is whole
+  -- the last row that was passed gives the reply
+  ended_whole : reply_last read ≡ prev_reply h table k
+  ended_whole = at_end table h k g.fine g.small s row g.ends g.tells
 
   -- where no row was passed
-  pub none_less : (e ≡ Ends.TheVariants.Damage → ⊥) → h.width - left_bits ≡ 0 → answered h NoSuchWord read ≡ prev_reply h table k
-  none_less whole none =
+  pub none_less : h.width - left_bits ≡ 0 → answered h NoSuchWord read ≡ prev_reply h table k
+  none_less none =
       let so : reply_last read ≡ answered h NoSuchWord read = rw (le-ltb left_bits h.width (le_of_sub-eq-zero none)) in
-      sym so ∙ ended_whole whole
+      sym so ∙ ended_whole
 
   mask_is : s.mask ≡ 2 ^ left_bits - 1
-  mask_is = went.mask ∙ ap (λ (x : ℕ). 2 ^ x - 1) (sym bits_so)
+  mask_is = g.ends.mask ∙ ap (λ (x : ℕ). 2 ^ x - 1) (sym bits_so)
 
   -- where rows were passed: the last of them
   module _ (passed : h.width - left_bits ≡ 0 → ⊥) where
@@ -237,9 +199,9 @@ module _ {table : List ℕ} {h : Header} {k : ℕ} {s : Seek} {e : End} (g : Sto
 
     pub last_used : above_of s < capacity table
     last_used =
-        let fewer : went.walk.bits < h.width = rw (← bits_so) less in
-        let used : went.walk.above < went.walk.count = went.walked.walking.memory.above_used fewer in
-        omega (arith, went.above, went.walked.walking.same_count, (right_header h table g.fine).has_room)
+        let fewer : g.ends.walk.bits < h.width = rw (← bits_so) less in
+        let used : g.ends.walk.above < g.ends.walk.count = g.ends.walked.walking.memory.above_used fewer in
+        omega (arith, g.ends.above, g.ends.walked.walking.same_count, (right_header h table g.fine).has_room)
 
     -- the place of its left part
     pub part_stands : last.entry.key < 2 ^ 32 → Stands (left_place last s.mask) (left_start h.count last left_bits)
@@ -257,15 +219,14 @@ module _ {table : List ℕ} {h : Header} {k : ℕ} {s : Seek} {e : End} (g : Sto
     aside_is : (b : Bool) → eqb (left_if_right k left_bits last) 0 ≡ b → aside ≡ not b
     aside_is b so = turned_right (k / 2 ^ left_bits % 2) last.left ∙ ap not so
 
-    module _ (whole : e ≡ Ends.TheVariants.Damage → ⊥) where
-      pub last_is : left_if_right k left_bits last ≡ 0 → answered h (Word last.entry.key) read ≡ prev_reply h table k
-      last_is none = sym (by_side false (aside_is true (eq-eqb _ 0 none))) ∙ ended_whole whole
+    pub last_is : left_if_right k left_bits last ≡ 0 → answered h (Word last.entry.key) read ≡ prev_reply h table k
+    last_is none = sym (by_side false (aside_is true (eq-eqb _ 0 none))) ∙ ended_whole
 
-      pub left_of_last : (left_if_right k left_bits last ≡ 0 → ⊥)
-          → greatest_by h (row_at table) read (left_start h.count last left_bits) ≡ prev_reply h table k
-      left_of_last there =
-          let part_is : below (row_at table) h.count (suc left_bits) (above_of s) left ≡ tree_at (row_at table) (left_start h.count last left_bits)
-          = followed (unfolded (row_at table) h.count left_bits (last.entry.key / 2 ^ suc left_bits * 2 + bit_of left) (suc last.entry.key)) last.left (λ none. there (no_left (eqb (k / 2 ^ left_bits % 2) 0) last.left none)) in
-          ap (λ (t : Tree). then_by h read (way (down right) left_bits t)) (sym part_is)
-          ∙ sym (by_side true (aside_is false (ne_eqb _ 0 there)))
-          ∙ ended_whole whole
+    pub left_of_last : (left_if_right k left_bits last ≡ 0 → ⊥)
+        → greatest_by h (row_at table) read (left_start h.count last left_bits) ≡ prev_reply h table k
+    left_of_last there =
+        let part_is : below (row_at table) h.count (suc left_bits) (above_of s) left ≡ tree_at (row_at table) (left_start h.count last left_bits)
+        = followed (unfolded (row_at table) h.count left_bits (last.entry.key / 2 ^ suc left_bits * 2 + bit_of left) (suc last.entry.key)) last.left (λ none. there (no_left (eqb (k / 2 ^ left_bits % 2) 0) last.left none)) in
+        ap (λ (t : Tree). then_by h read (way (down right) left_bits t)) (sym part_is)
+        ∙ sym (by_side true (aside_is false (ne_eqb _ 0 there)))
+        ∙ ended_whole

@@ -1,10 +1,10 @@
 -- "each row taking the key below": the entries that the rows of a stretch take, in the definition and row by row in the code; and the loop that
 -- writes them.
-use Prim.Native.Nat.{ℕ, zero, suc, ◌+◌, ◌*◌, ◌-◌, ◌/◌, ◌^◌, ◌≤◌, ◌<◌}
+use Prim.Native.Nat.{ℕ, zero, suc, ◌+◌, ◌*◌, ◌/◌, ◌^◌, ◌≤◌, ◌<◌}
 use mathlib.Core.Path.{◌≡◌, refl, sym, ◌∙◌, subst}
 use mathlib.Core.Bool.{Bool, true, false, not, true≢false}
 use mathlib.Core.List.{List, [], ◌∷◌}
-use native.Mathlib.Nat.{le_trans, le_refl, le_of_lt, lt_of_lt_of_le, pos_of_ne-zero}
+use native.Mathlib.Nat.{le_trans, le_refl, le_of_lt, lt_of_lt_of_le}
 use native.Mathlib.Omega.{arith}
 use lib.Dec.{ltb, leb, eqb}
 use lib.ListN.{length}
@@ -37,7 +37,7 @@ follows : (r : Row) (s : Side) → (down_turn left r) ≡ to s → Follows r s (
 follows r s says = go (eqb r.left 0) (eqb r.right 0) refl refl says
   where
     go : (a b : Bool) → eqb r.left 0 ≡ a → eqb r.right 0 ≡ b
-        → (if not a then to left else if not b then to right else stop) ≡ to s → Follows r s (if not a then r.left else r.right)
+        → (if not a then to left else if not b then to right else stop) ≡ to s → Follows r s (link r (if a then right else left))
     go false b ha hb says =
         let e : left ≡ s = cc in
         subst (λ (t : Side). Follows r t r.left) e (record { same = refl; some = eqb-false r.left 0 ha })
@@ -142,14 +142,11 @@ unfolding Rises
 first_used rows n zero i h = h
 first_used rows n (suc s) i h = h.0
 
-module _ (start : List ℕ) (from steps : ℕ) (table : List ℕ) (at left : ℕ) (more : left ≡ 0 → ⊥) (k : Raises start from steps table at left) where
+module _ (start : List ℕ) (from steps : ℕ) (table : List ℕ) (at left rest : ℕ) (one_more : left ≡ suc rest) (k : Raises start from steps table at left) where
   abbrev next : ℕ
   next = row_below (row_at start at)
 
-  one_more : left ≡ suc (left - 1)
-  one_more = omega (arith, pos_of_ne-zero more)
-
-  risen : ((row_at start at).entry.key < (row_at start next).entry.key) × Rises (row_at start) (capacity start) (left - 1) next
+  risen : ((row_at start at).entry.key < (row_at start next).entry.key) × Rises (row_at start) (capacity start) rest next
   unfolding Rises
   risen = let h = rw one_more at k.rises in (h.1, h.2)
 
@@ -166,7 +163,7 @@ module _ (start : List ℕ) (from steps : ℕ) (table : List ℕ) (at left : ℕ
   next_same = k.same next (le_of_lt risen.0)
 
   -- one turn of the loop: the row takes the key below
-  pub raises_more : Raises start from steps (with_entry at (entry_of (row_at start next)) table) next (left - 1)
+  pub raises_more : Raises start from steps (with_entry at (entry_of (row_at start next)) table) next rest
   unfolding raising taking
   raises_more =
       record {

@@ -8,26 +8,24 @@ use native.Mathlib.Omega.{arith}
 use lib.Dec.{ltb, leb, eqb}
 use lib.Pow.{pow-lt, pow_pos}
 use borrow.Author.Tests.{lt-ltb, le-ltb, le-leb, lt-leb, eq-eqb, ne_eqb, ltb-true, ltb-false, eqb-true, eqb-false}
-use Rattle.std.specs.Prelude.{if◌then◌else◌}
+use Rattle.std.specs.Prelude.{if◌then◌else◌, Ok, Some, None}
 use Rattle.ordered.specs.Dictionary.{Entry}
-use Rattle.ordered.specs.Word.{Side, left, right, side_of, bit_of, side}
+use Rattle.ordered.specs.Word.{Side, left, right, bit_of, side}
 use Rattle.ordered.specs.Tree.{Tree}
 use Rattle.ordered.specs.Way.{way, stop, to}
 use Rattle.ordered.proofs.Bits.{next_bit}
 use Rattle.pretree.specs.declared.Header.{Header}
 use Rattle.pretree.specs.declared.Row as Rows
-use Rattle.pretree.specs.declared.leg.End.{End}
-use Rattle.pretree.specs.declared.leg.End.TheVariants.{None, Row, Damage}
 use Rattle.pretree.specs.declared.seek.Seek.{Seek}
 use Rattle.pretree.specs.Table.{row_words, entry_of, row_at, link}
 use Rattle.pretree.specs.Unfold.{ends_there, shown}
 use Rattle.pretree.specs.Walk.{Walk, Stage, On, AtNone, AtRow, AtDamage}
 use Rattle.pretree.specs.Walk.{started, is_on, holds, ended, remembering, passed, turned, stage_at, met, seeking, seek_turn, Walking}
-use Rattle.pretree.specs.Leg.{EndsAs}
+use Rattle.pretree.specs.Leg.{EndsAs, End, damage}
 use Rattle.pretree.specs.Seek.{row_of, begun, passes, goes_on, gone, turn, end_of, aside_of, span_of, Shows, OnSeek, SeekEnds}
 use Rattle.pretree.specs.Seek as Seeks
 use Rattle.pretree.proofs.Writing.{row_back}
-use Rattle.pretree.proofs.Between.{below_in, below_few, above_in, above_near, half_mask, turns_so, next_rest, side_of_bit}
+use Rattle.pretree.proofs.Between.{below_in, below_few, above_in, above_near, half_mask, turns_so, next_rest}
 use Rattle.pretree.proofs.Walking.{keeps, begins_root}
 use Rattle.pretree.proofs.SeekTurn.{seek_says}
 
@@ -36,13 +34,13 @@ both true b e = (refl, e)
 both false b e = absurd (true≢false (sym e))
 
 -- a test with the result 0 or 1, which is the bit of a side
-tells_left : (b : Bool) → (if b then 1 else 0) ≡ bit_of left → b ≡ false
-tells_left true e = absurd (omega arith)
+tells_left : (b : Bool) → (if b then right else left) ≡ left → b ≡ false
+tells_left true e = cc
 tells_left false e = refl
 
-tells_right : (b : Bool) → (if b then 1 else 0) ≡ bit_of right → b ≡ true
+tells_right : (b : Bool) → (if b then right else left) ≡ right → b ≡ true
 tells_right true e = refl
-tells_right false e = absurd (omega arith)
+tells_right false e = cc
 
 -- what the seek's test of a key says
 record Passes (s : Seek) (k key : ℕ) : Type 0 where
@@ -97,7 +95,7 @@ module _ (rows : ℕ → Rows.Row) (k : ℕ) (s : Seek) (w : Walk) (sh : Shows r
         go true e = rw (sh.at_root (eqb-true w.low 0 e)) (omega arith)
         go false e = omega (arith, sh.from_root (pos_of_ne-zero (eqb-false w.low 0 e)), high)
 
-    turns : turn s ≡ bit_of (side m k)
+    turns : turn s ≡ side m k
     turns = rw (sh.mask, sh.tail, bits) (turns_so m k)
 
     -- past the row by the link l; v is the walk w, and remembers aside what the seek does
@@ -107,6 +105,7 @@ module _ (rows : ℕ → Rows.Row) (k : ℕ) (s : Seek) (w : Walk) (sh : Shows r
         → Shows rows k (past_here l) (passed v (entry_of here) (bit_of (side m k)) l)
     link_shows v l same_row same_bits same_path same_aside same_span =
         record {
+          word = sh.word;
           row = row_back l;
           at = ap (λ i. row_words * i) (sym (row_back l));
           mask = rw (sh.mask, same_bits, bits) (half_mask m);
@@ -124,12 +123,12 @@ module _ (rows : ℕ → Rows.Row) (k : ℕ) (s : Seek) (w : Walk) (sh : Shows r
     turned_shows : (t : Side) → side m k ≡ t → Shows rows k (past_here (link here t)) (turned w here (to t))
     unfolding turned
     turned_shows right e =
-        let to_right : ltb (s.mask / 2) s.tail ≡ true = tells_right _ (turns ∙ ap bit_of e) in
+        let to_right : ltb (s.mask / 2) s.tail ≡ true = tells_right _ (turns ∙ e) in
         rw e at (link_shows w here.right refl refl refl (rw to_right sh.aside) (rw to_right sh.span))
     turned_shows left e = go (eqb here.right 0) refl
       where
         to_left : ltb (s.mask / 2) s.tail ≡ false
-        to_left = tells_left _ (turns ∙ ap bit_of e)
+        to_left = tells_left _ (turns ∙ e)
 
         go : (b : Bool) → eqb here.right 0 ≡ b
             → Shows rows k (past_here here.left) (passed (if b then w else remembering w) (entry_of here) 0 here.left)
@@ -162,6 +161,7 @@ module _ (rows : ℕ → Rows.Row) (k : ℕ) (s : Seek) (w : Walk) (sh : Shows r
           walk = ended w stage last;
           walked = record { walking = walks; ended = off };
           ends = so;
+          word = sh.word;
           row = sh.row;
           mask = sh.mask;
           tail = sh.tail;
@@ -176,13 +176,13 @@ module _ (rows : ℕ → Rows.Row) (k : ℕ) (s : Seek) (w : Walk) (sh : Shows r
     linked moved = sh.stage ∙ rw (ne_eqb w.low 0 moved)
 
     -- a link past the rows in use
-    pub ends_outside : 0 < h.count → h.count ≤ row_of s → Ends Damage
+    pub ends_outside : 0 < h.count → h.count ≤ row_of s → Ends damage
     ends_outside some past =
         let off_root : w.row ≡ 0 → ⊥ = λ e. omega (arith, sh.row) in
         let unused : w.count ≤ w.row = omega (arith, sh.row, g.same_count) in
         let at : w.stage ≡ AtDamage
         = linked (λ e. off_root (sh.at_root e)) ∙ rw (ne_eqb w.row 0 off_root, le-ltb w.row w.count unused) in
-        way_ends_at w.stage w.entry g (rw at) Damage at
+        way_ends_at w.stage w.entry g (rw at) damage at
 
     module _ (used : w.row < h.count) where
       walks_on : w.stage ≡ On → Walks on_walk
@@ -192,30 +192,30 @@ module _ (rows : ℕ → Rows.Row) (k : ℕ) (s : Seek) (w : Walk) (sh : Shows r
       in_use : w.row < w.count
       in_use = rw g.same_count used
 
-      passes_on : Passes s k key → Walks on_walk × Shows rows k (past_here (link here (side_of (turn s)))) on_walk
+      passes_on : Passes s k key → Walks on_walk × Shows rows k (past_here (link here (turn s))) on_walk
       unfolding met
       passes_on p = go (some_bits p)
         where
-          go : (m : ℕ) × (w.bits ≡ suc m) → Walks on_walk × Shows rows k (past_here (link here (side_of (turn s)))) on_walk
+          go : (m : ℕ) × (w.bits ≡ suc m) → Walks on_walk × Shows rows k (past_here (link here (turn s))) on_walk
           go (m, bits) =
               let low : w.low ≤ key = high p m bits in
               let few : k - 1 - key < k % 2 ^ w.bits = rw (← sh.tail) p.in_tail in
               let sound : holds w here ≡ true = holds_so low (below_in k key w.bits p.less few) (rw bits) in
               let moved : on_walk ≡ turned w here (to (side m k))
               = rw (sound, bits, ne_eqb (suc m) 0 (suc-ne-zero m), lt-leb k key p.less) in
-              (walks_on (on_here in_use low), rw (moved, turns p m bits, side_of_bit (side m k)) (turned_shows p m bits (side m k) refl))
+              (walks_on (on_here in_use low), rw (moved, turns p m bits) (turned_shows p m bits (side m k) refl))
 
-      damaged_here : w.stage ≡ On → holds w here ≡ false → Ends Damage
+      damaged_here : w.stage ≡ On → holds w here ≡ false → Ends damage
       unfolding met
       damaged_here on bad =
           let meets : on_walk ≡ ended w AtDamage (entry_of here) = rw bad in
-          way_ends_at AtDamage (entry_of here) (subst Walks meets (walks_on on)) refl Damage refl
+          way_ends_at AtDamage (entry_of here) (subst Walks meets (walks_on on)) refl damage refl
 
-      row_here : w.stage ≡ On → holds w here ≡ true → k ≤ key → Ends (Row here)
+      row_here : w.stage ≡ On → holds w here ≡ true → k ≤ key → Ends (Ok (Some here))
       unfolding met turned
       row_here on fine past =
           let meets : on_walk ≡ ended w AtRow (entry_of here) = rw (fine, le-leb k key past) (go (eqb w.bits 0)) in
-          way_ends_at AtRow (entry_of here) (subst Walks meets (walks_on on)) refl (Row here) (refl, refl, refl)
+          way_ends_at AtRow (entry_of here) (subst Walks meets (walks_on on)) refl (Ok (Some here)) (refl, refl, refl)
         where
           go : (b : Bool) → (if b then ended w AtRow (entry_of here) else turned w here (if b then stop else stop)) ≡ ended w AtRow (entry_of here)
           go true = refl
@@ -225,7 +225,7 @@ module _ (rows : ℕ → Rows.Row) (k : ℕ) (s : Seek) (w : Walk) (sh : Shows r
       low_small = omega (arith, sh.between)
 
       -- a key less than the word that is not passed: the link was empty, or the row is damage
-      below : key < k → passes s k key ≡ false → Ends (if eqb (row_of s) 0 && not (eqb s.between k) then None else Damage)
+      below : key < k → passes s k key ≡ false → Ends (if eqb (row_of s) 0 && not (eqb s.between k) then Ok None else damage)
       below less not_passed = go (eqb (row_of s) 0) (eqb s.between k) refl refl
         where
           too_small : s.between ≤ k - 1 - key → holds w here ≡ false
@@ -250,21 +250,21 @@ module _ (rows : ℕ → Rows.Row) (k : ℕ) (s : Seek) (w : Walk) (sh : Shows r
               by_between false e = too_small (ltb-false _ _ e)
               by_between true e = outside (ltb-false _ _ (rw (lt-ltb key k less, e) at not_passed))
 
-          go : (a b : Bool) → eqb (row_of s) 0 ≡ a → eqb s.between k ≡ b → Ends (if a && not b then None else Damage)
+          go : (a b : Bool) → eqb (row_of s) 0 ≡ a → eqb s.between k ≡ b → Ends (if a && not b then Ok None else damage)
           go true true at_0 first =
               let unmoved : w.low ≡ 0 = omega (arith, sh.between, eqb-true s.between k first) in
               damaged_here (sh.stage ∙ rw (eq-eqb w.low 0 unmoved)) bad
           go true false at_0 moved =
               let left_root : w.low ≡ 0 → ⊥ = λ e. eqb-false s.between k moved (omega (arith, sh.between)) in
               let nothing : w.stage ≡ AtNone = linked left_root ∙ rw (← sh.row, at_0) in
-              way_ends_at w.stage w.entry g (rw nothing) None nothing
+              way_ends_at w.stage w.entry g (rw nothing) (Ok None) nothing
           go false b not_0 between =
               let off_root : w.row ≡ 0 → ⊥ = λ e. eqb-false (row_of s) 0 not_0 (sh.row ∙ e) in
               let left_root : w.low ≡ 0 → ⊥ = λ e. off_root (sh.at_root e) in
               damaged_here (linked left_root ∙ rw (ne_eqb w.row 0 off_root, lt-ltb w.row w.count in_use)) bad
 
       -- a key greater than the word: it has the bits of the path if it is near enough
-      past : k < key → Ends (if ltb (s.mask - s.tail) (key - k) then Damage else Row here)
+      past : k < key → Ends (if ltb (s.mask - s.tail) (key - k) then damage else Ok (Some here))
       past more = go (ltb (s.mask - s.tail) (key - k)) refl
         where
           on : w.stage ≡ On
@@ -273,7 +273,7 @@ module _ (rows : ℕ → Rows.Row) (k : ℕ) (s : Seek) (w : Walk) (sh : Shows r
           room : s.mask - s.tail ≡ 2 ^ w.bits - 1 - k % 2 ^ w.bits
           room = rw (sh.mask, sh.tail)
 
-          go : (b : Bool) → ltb (s.mask - s.tail) (key - k) ≡ b → Ends (if b then Damage else Row here)
+          go : (b : Bool) → ltb (s.mask - s.tail) (key - k) ≡ b → Ends (if b then damage else Ok (Some here))
           go true e =
               let far : s.mask - s.tail < key - k = ltb-true _ _ e in
               let apart : key / 2 ^ w.bits ≡ w.path → ⊥ = λ same. omega (arith, room, above_near k key w.bits (omega arith) (same ∙ sh.path)) in
@@ -287,7 +287,7 @@ module _ (rows : ℕ → Rows.Row) (k : ℕ) (s : Seek) (w : Walk) (sh : Shows r
               not_last (suc m) e near = refl
 
       -- the word itself
-      same : key ≡ k → Ends (if eqb s.mask 0 && not (eqb here.left 0 && eqb here.right 0) then Damage else Row here)
+      same : key ≡ k → Ends (if eqb s.mask 0 && not (eqb here.left 0 && eqb here.right 0) then damage else Ok (Some here))
       same e = go (eqb here.left 0 && eqb here.right 0) refl w.bits refl
         where
           on : w.stage ≡ On
@@ -307,7 +307,7 @@ module _ (rows : ℕ → Rows.Row) (k : ℕ) (s : Seek) (w : Walk) (sh : Shows r
               rw (le-leb w.low key (omega (arith, low_small)), eq-eqb (key / 2 ^ w.bits) w.path (rw e (sym sh.path))) at_end
 
           go : (both_0 : Bool) → (eqb here.left 0 && eqb here.right 0) ≡ both_0 → (b : ℕ) → w.bits ≡ b
-              → Ends (if eqb s.mask 0 && not both_0 then Damage else Row here)
+              → Ends (if eqb s.mask 0 && not both_0 then damage else Ok (Some here))
           go true links zero bits = subst Ends (rw (empty bits)) (row_here on (fine true (rw bits links)) at_least)
           go false links zero bits = subst Ends (rw (empty bits)) (damaged_here on (fine false (rw bits links)))
           go both_0 links (suc m) bits =
@@ -317,16 +317,16 @@ module _ (rows : ℕ → Rows.Row) (k : ℕ) (s : Seek) (w : Walk) (sh : Shows r
       pub ends_here : passes s k key ≡ false → Ends (end_of s k here)
       ends_here not_passed = by_less (ltb key k) refl
         where
-          by_more : (b : Bool) → ltb k key ≡ b → k ≤ key → Ends (if b then (if ltb (s.mask - s.tail) (key - k) then Damage else Row here)
-              else if eqb s.mask 0 && not (eqb here.left 0 && eqb here.right 0) then Damage
-              else Row here)
+          by_more : (b : Bool) → ltb k key ≡ b → k ≤ key → Ends (if b then (if ltb (s.mask - s.tail) (key - k) then damage else Ok (Some here))
+              else if eqb s.mask 0 && not (eqb here.left 0 && eqb here.right 0) then damage
+              else Ok (Some here))
           by_more true e not_less = past (ltb-true k key e)
           by_more false e not_less = let not_more : key ≤ k = ltb-false k key e in same (omega arith)
 
-          by_less : (b : Bool) → ltb key k ≡ b → Ends (if b then (if eqb (row_of s) 0 && not (eqb s.between k) then None else Damage)
-              else if ltb k key then (if ltb (s.mask - s.tail) (key - k) then Damage else Row here)
-              else if eqb s.mask 0 && not (eqb here.left 0 && eqb here.right 0) then Damage
-              else Row here)
+          by_less : (b : Bool) → ltb key k ≡ b → Ends (if b then (if eqb (row_of s) 0 && not (eqb s.between k) then Ok None else damage)
+              else if ltb k key then (if ltb (s.mask - s.tail) (key - k) then damage else Ok (Some here))
+              else if eqb s.mask 0 && not (eqb here.left 0 && eqb here.right 0) then damage
+              else Ok (Some here))
           by_less true e = below (ltb-true key k e) not_passed
           by_less false e = by_more (ltb k key) refl (ltb-false key k e)
 
@@ -342,6 +342,7 @@ module _ (table : List ℕ) (h : Header) (k : ℕ) where
         walking = begins_root h table (seeking k k);
         shows =
             record {
+              word = refl;
               row = refl;
               at = refl;
               mask = refl;
@@ -369,7 +370,7 @@ module _ (table : List ℕ) (h : Header) (k : ℕ) where
   further s g on = record { used = used; less = passing.less; on_seek = subst Past (sym g.shows.row) past; falls = halves }
     where
       Past : ℕ → Type 0
-      Past i = OnSeekHere (Seeks.passed s k (row_at table i).entry.key (link (row_at table i) (side_of (turn s))) (row_at table i).right)
+      Past i = OnSeekHere (Seeks.passed s k (row_at table i).entry.key (link (row_at table i) (turn s)) (row_at table i).right)
 
       used : row_of s < h.count
       used = ltb-true _ _ (both (ltb (row_of s) h.count) _ on).0

@@ -10,14 +10,12 @@ use lib.Pow.{split, pow_pos, pow_mono, shr_lt, le_ones, ones_split}
 use borrow.Author.Tests.{lt-ltb, ltb-true, ltb-false}
 use Rattle.std.specs.Prelude.{if◌then◌else◌}
 use Rattle.pretree.specs.declared.Header.{Header}
-use Rattle.pretree.specs.declared.leg.End.{End}
-use Rattle.pretree.specs.declared.leg.End.TheVariants.{Damage}
 use Rattle.pretree.specs.declared.seek.Seek.{Seek}
 use Rattle.pretree.specs.Table.{row_at}
 use Rattle.pretree.specs.Unfold.{shown}
 use Rattle.pretree.specs.Reply.{wrong_header, too_wide}
 use Rattle.pretree.specs.Walk.{Walk}
-use Rattle.pretree.specs.Leg.{Stands}
+use Rattle.pretree.specs.Leg.{Stands, End, damage}
 use Rattle.pretree.specs.Seek.{row_of, bits_left_by, passes, end_of, end_at, place_of, Shows, Sought, SeekEnds}
 use Rattle.pretree.proofs.Checks.{right_header, narrow}
 use Rattle.pretree.proofs.Between as Between
@@ -59,7 +57,7 @@ module _ (table : List ℕ) (h : Header) (k : ℕ) (fine : wrong_header h table 
             (subst (λ (i : ℕ). passes s k (row_at table i).entry.key ≡ false) shows.row (not_passed used))
 
         go : (b : Bool) → ltb (row_of s) h.count ≡ b
-            → SeekEnds (row_at table) h (shown h table) k s (if b then end_of s k (row_at table (row_of s)) else Damage)
+            → SeekEnds (row_at table) h (shown h table) k s (if b then end_of s k (row_at table (row_of s)) else damage)
         go true e = subst EndsAt (sym shows.row) (there (ltb-true _ _ e))
         go false e = ends_outside (row_at table) k s w shows h (shown h table) g.on.walking some (ltb-false _ _ e)
 
@@ -72,11 +70,11 @@ module _ (table : List ℕ) (h : Header) (k : ℕ) (fine : wrong_header h table 
         = ap bits_left_by shows.mask ∙ Between.bits_are w.bits (le_trans g.on.walking.fits width_few) in
         rw bits_so g.on.walking.fits
 
-    pub between_few : s.between ≤ k
-    between_few = omega (arith, shows.between)
+    pub between_few : s.between ≤ s.word
+    between_few = omega (arith, shows.between, shows.word)
 
-    pub tail_less : s.tail ≤ k
-    tail_less = rw shows.tail (mod-le k (2 ^ w.bits))
+    pub tail_less : s.tail ≤ s.word
+    tail_less = rw (shows.word, shows.tail) (mod-le k (2 ^ w.bits))
 
   module _ (s : Seek) (e : End) (g : SeekEnds (row_at table) h (shown h table) k s e) where
     few : g.walk.bits ≤ 32

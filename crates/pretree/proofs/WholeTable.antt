@@ -1,37 +1,35 @@
 -- Laws for `audit` and `list`: what the root shows, when the table is sound, and what `list` leaves in the buffer.
-use Prim.Native.Nat.{ℕ, zero, suc, ◌+◌, ◌*◌, ◌-◌, ◌/◌, ◌^◌, ◌≤◌, ◌<◌}
+use Prim.Native.Nat.{ℕ, zero, suc, ◌+◌, ◌*◌, ◌-◌, ◌/◌, ◌^◌, ◌≤◌}
 use mathlib.Core.Path.{◌≡◌, refl, sym, ap, ap₂, ◌∙◌}
-use mathlib.Core.Bool.{Bool, true, false, ◌&&◌, true≢false}
+use mathlib.Core.Bool.{Bool, true, false, true≢false}
 use mathlib.Core.List.{List, ◌++◌}
 use native.Mathlib.Nat.{zero-add, le_trans}
 use native.Mathlib.Omega.{arith}
 use lib.Dec.{ltb, eqb}
 use lib.ListN.{length, drop}
 use lib.Seq.{sets, sets-eq}
-use borrow.Author.Tests.{ltb-true, lt-ltb, le-ltb, eqb-true, eqb-false, eq-eqb, ne_eqb}
-use Rattle.std.specs.Prelude.{if◌then◌else◌}
+use borrow.Author.Tests.{ltb-true, lt-ltb, le-ltb, eqb-true, eq-eqb, ne_eqb}
 use Rattle.ordered.specs.Word.{Side, left, right, bit_of}
-use Rattle.ordered.specs.Tree.{Tree, none, row, damaged, intact, size, entries, listing}
+use Rattle.ordered.specs.Tree.{Tree, none, row, intact, size, entries, listing}
 use Rattle.ordered.proofs.Ways.{and_true}
 use Rattle.ordered.proofs.OneTree.{listing_length}
 use Rattle.pretree.specs.declared.Header.{Header}
 use Rattle.pretree.specs.declared.Answer.TheVariants as Answers
-use Rattle.pretree.specs.declared.Reply.{Reply}
 use Rattle.pretree.specs.declared.Row as Rows
-use Rattle.pretree.specs.declared.leg.End.TheVariants.{Damage}
 use Rattle.pretree.specs.Table.{entry_of, capacity, row_at, link}
 use Rattle.pretree.specs.Unfold.{judged, linked, unfolded, shown}
 use Rattle.pretree.specs.Sound.{is_sound}
-use Rattle.pretree.specs.Reply.{wrong_header, refused, answered}
+use Rattle.pretree.specs.Reply.{wrong_header, answered}
 use Rattle.pretree.specs.Whole.{list_reply, list_buffer}
 use Rattle.pretree.specs.Walk.{started, below}
 use Rattle.pretree.specs.Seek.{bits_left_by}
-use Rattle.pretree.specs.Leg.{root_place, judges, row_end, Stands}
-use Rattle.pretree.specs.Part.{row_tree, counted, Standing, Listable}
+use Rattle.pretree.specs.Leg.{root_place, Stands}
+use Rattle.pretree.specs.Part.{row_tree, part_at, Standing, Listable}
 use Rattle.pretree.proofs.Places.{root_stands}
+use Rattle.pretree.proofs.Between.{bits_are}
 use Rattle.pretree.proofs.Checks.{right_header}
 use Rattle.pretree.proofs.Unfolding.{is_row, damaged_is}
-use Rattle.pretree.proofs.Parts.{row_found}
+use Rattle.pretree.proofs.Parts.{part_is, whole_row}
 
 -- ---- a part without damage stays the same if more rows are in use
 
@@ -84,13 +82,9 @@ written_first : (xs buffer : List ℕ) (n : ℕ) → length xs ≡ n → n ≤ l
 written_first xs buffer n e h = rw (zero-add, e) at (sets-eq xs buffer 0 (omega arith))
 
 module _ (h : Header) (table : List ℕ) where
-  none_shown : h.count ≡ 0 → shown h table ≡ none
+  pub none_shown : h.count ≡ 0 → shown h table ≡ none
   unfolding shown
   none_shown empty = rw (eq-eqb h.count 0 empty)
-
-  pub none_sound : h.count ≡ 0 → is_sound h table ≡ true
-  unfolding is_sound intact size
-  none_sound empty = rw (none_shown empty, empty)
 
   -- the tree of the root's row, where n rows are in use
   abbrev root_tree : ℕ → Tree
@@ -101,63 +95,36 @@ module _ (h : Header) (table : List ℕ) where
     unfolding shown
     root_shown = rw (ne_eqb h.count 0 some)
 
-    stands : Stands (root_place h.width) (started h)
-    stands = root_stands h (right_header h table right_there).at_most_32
+    pub root_stands_there : Stands (root_place h.width) (started h)
+    root_stands_there = root_stands h (right_header h table right_there).at_most_32
 
-    pub root_damaged : row_end (row_at table) h.count (root_place h.width) ≡ Damage → is_sound h table ≡ false
-    unfolding is_sound intact
-    root_damaged e =
-        let shows : shown h table ≡ damaged = rw e at (row_found (row_at table) h.count (root_place h.width) (started h) stands (shown h table) root_shown) in
-        rw shows
-
-    -- an undamaged root shows its row
-    module _ (whole : row_end (row_at table) h.count (root_place h.width) ≡ Damage → ⊥) where
-      root_found : (shown h table ≡ root_tree h.count) × Standing (row_at table) h.count (2 ^ h.width - 1) 0
-      root_found = go (ltb 0 h.count && judges (root_place h.width) (row_at table 0)) refl
-        where
-          go : (b : Bool) → (ltb 0 h.count && judges (root_place h.width) (row_at table 0)) ≡ b
-              → (shown h table ≡ root_tree h.count) × Standing (row_at table) h.count (2 ^ h.width - 1) 0
-          go true e =
-              let found = rw e at (row_found (row_at table) h.count (root_place h.width) (started h) stands (shown h table) root_shown) in
-              (found.1, found.2)
-          go false e = absurd (whole (rw e))
-
-      pub root_standing : Standing (row_at table) h.count (2 ^ h.width - 1) 0
-      root_standing = root_found.1
-
-      -- the table is sound if the root's part has one empty link more than there are rows in use
-      pub counted_sound : is_sound h table ≡ eqb (counted (root_tree h.count)) (h.count + 1)
-      unfolding is_sound counted
-      counted_sound = rw root_found.0 (go (intact t) (eqb (size t) h.count) refl)
-        where
-          t : Tree
-          t = root_tree h.count
-
-          go : (a b : Bool) → eqb (size t) h.count ≡ b → (a && b) ≡ eqb (if a then suc (size t) else 0) (h.count + 1)
-          go false b e = sym (ne_eqb 0 (h.count + 1) (λ z. omega arith))
-          go true true e = sym (eq-eqb (suc (size t)) (h.count + 1) (let same : size t ≡ h.count = eqb-true _ _ e in omega arith))
-          go true false e = sym (ne_eqb (suc (size t)) (h.count + 1) (λ z. eqb-false (size t) h.count e (omega arith)))
+    pub root_part : part_at (row_at table) h.count (root_place h.width) ≡ shown h table
+    root_part = part_is (row_at table) h.count (root_place h.width) (started h) root_stands_there ∙ sym root_shown
 
     module _ (sound : is_sound h table ≡ true) where
-      whole : row_end (row_at table) h.count (root_place h.width) ≡ Damage → ⊥
-      whole e = true≢false (sym sound ∙ root_damaged e)
-
       sound_parts : (intact (shown h table) ≡ true) × (size (shown h table) ≡ h.count)
       unfolding is_sound
       sound_parts =
           let parts = and_true (intact (shown h table)) (eqb (size (shown h table)) h.count) sound in
           (parts.0, eqb-true _ _ parts.1)
 
+      -- the root's row is undamaged
+      root_row : (shown h table ≡ root_tree h.count) × Standing (row_at table) h.count (2 ^ h.width - 1) 0
+      root_row =
+          let few = (right_header h table right_there).at_most_32 in
+          let found = whole_row (row_at table) h.count h.width 0 0 few 0 (sym (ap intact root_shown) ∙ sound_parts.0) in
+          (root_shown ∙ found.0 ∙ ap (λ (b : ℕ). row_tree (row_at table) h.count b 0) (sym (bits_are h.width few)), found.1)
+
       -- `list` reads a sound table as if every row up to capacity were in use
       all_shown : shown h table ≡ root_tree (capacity table)
       all_shown =
-          let shows = (root_found whole).0 in
+          let shows = root_row.0 in
           shows
           ∙ sym (wider (row_at table) h.count (capacity table) (right_header h table right_there).has_room (bits_left_by (2 ^ h.width - 1)) 0 (sym (ap intact shows) ∙ sound_parts.0))
 
       pub sound_standing : Standing (row_at table) (capacity table) (2 ^ h.width - 1) 0
       sound_standing =
-          let g = root_standing whole in
+          let g = root_row.1 in
           record {
             bits = g.bits;
             few = g.few;
@@ -178,32 +145,17 @@ module _ (h : Header) (table : List ℕ) where
             ap (λ (t : Tree). sets buffer 0 (listing t)) (sym all_shown)
             ∙ written_first (listing (shown h table)) buffer h.count (listing_length (shown h table) ∙ sound_parts.1) room
 
--- ---- `list`, in the order of its refusals
+-- ---- `list` past its refusals
 
-module _ (h : Header) (table buffer : List ℕ) where
+module _ (h : Header) (table buffer : List ℕ) (right_there : wrong_header h table ≡ false) (sound : is_sound h table ≡ true) (room : h.count ≤ length buffer) where
   -- what it answers, and what it leaves in the buffer
-  abbrev Lists : Reply → List ℕ → Type 0
-  Lists r after = (r ≡ list_reply h table buffer) × (after ≡ list_buffer h table buffer)
+  abbrev Lists : List ℕ → Type 0
+  Lists after = (answered h Answers.Done h.count ≡ list_reply h table buffer) × (after ≡ list_buffer h table buffer)
 
-  pub lists_wrong : wrong_header h table ≡ true → Lists (refused h Answers.WrongHeader) buffer
+  pub lists_none : h.count ≡ 0 → Lists buffer
+  unfolding list_reply list_buffer entries
+  lists_none empty = rw (right_there, sound, le-ltb _ _ room) (refl, rw (none_shown h table empty, empty))
+
+  pub lists_all : (h.count ≡ 0 → ⊥) → Lists (sets buffer 0 (listing (root_tree h table (capacity table))))
   unfolding list_reply list_buffer
-  lists_wrong wrong = rw wrong (refl, refl)
-
-  module _ (right_there : wrong_header h table ≡ false) where
-    pub lists_damaged : is_sound h table ≡ false → Lists (refused h Answers.Damage) buffer
-    unfolding list_reply list_buffer
-    lists_damaged bad = rw (right_there, bad) (refl, refl)
-
-    module _ (sound : is_sound h table ≡ true) where
-      pub lists_short : length buffer < h.count → Lists (refused h Answers.ShortBuffer) buffer
-      unfolding list_reply list_buffer
-      lists_short short = rw (right_there, sound, lt-ltb _ _ short) (refl, refl)
-
-      module _ (room : h.count ≤ length buffer) where
-        pub lists_none : h.count ≡ 0 → Lists (answered h Answers.Done h.count) buffer
-        unfolding list_reply list_buffer entries
-        lists_none empty = rw (right_there, sound, le-ltb _ _ room) (refl, rw (none_shown h table empty, empty))
-
-        pub lists_all : (h.count ≡ 0 → ⊥) → Lists (answered h Answers.Done h.count) (sets buffer 0 (listing (root_tree h table (capacity table))))
-        unfolding list_reply list_buffer
-        lists_all some = rw (right_there, sound, le-ltb _ _ room) (refl, sound_listed h table right_there some sound buffer room)
+  lists_all some = rw (right_there, sound, le-ltb _ _ room) (refl, sound_listed h table right_there some sound buffer room)

@@ -1,24 +1,24 @@
 -- Where a row's words are in a table.
-use Prim.Native.Nat.{ℕ, zero, suc, ◌+◌, ◌*◌, ◌/◌, ◌≤◌, ◌<◌}
-use mathlib.Core.Path.{◌≡◌, refl, ap}
+use Prim.Native.Nat.{ℕ, ◌+◌, ◌*◌, ◌/◌, ◌≤◌, ◌<◌}
+use mathlib.Core.Path.{◌≡◌, refl}
 use mathlib.Core.List.{List}
-use native.Mathlib.Nat.{add-zero}
 use native.Mathlib.Omega.{arith}
-use lib.ListN.{length, get_or}
-use Rattle.ordered.specs.Word.{side_of, bit_of}
-use Rattle.pretree.specs.Table.{row_words, capacity, row_at, link}
+use lib.ListN.{length}
+use Rattle.ordered.specs.Word.{Side, left, right, bit_of}
+use denote.Enum.Declared.{tag_of}
+use Rattle.pretree.specs.contracts.leg.Side.{the_type}
+use Rattle.pretree.specs.declared.leg.Side as Sides
+use Rattle.pretree.specs.declared.leg.Side.TheVariants.{Left, Right}
+use Rattle.pretree.specs.Table.{row_words, capacity, to_side}
 
--- a bit is the bit of the side that it says
-pub bit_of_side : (b : ℕ) → b < 2 → bit_of (side_of b) ≡ b
-bit_of_side zero h = refl
-bit_of_side (suc b) h = omega arith
+-- the number that the code casts a side to
+pub cast_side : (n : Sides.Side) → tag_of the_type n ≡ bit_of (to_side n)
+cast_side Left = refl
+cast_side Right = refl
 
--- the link on a side
-pub link_read : (table : List ℕ) (i b : ℕ) → b < 2 → get_or table (row_words * i + 1 + b) 0 ≡ link (row_at table i) (side_of b)
-unfolding row_at
-link_read table i zero h = rw (add-zero (row_words * i + 1))
-link_read table i (suc zero) h = let two : row_words * i + 1 + 1 ≡ row_words * i + 2 = omega arith in rw two
-link_read table i (suc (suc b)) h = omega arith
+pub bit_small : (s : Side) → bit_of s < 2
+bit_small left = omega arith
+bit_small right = omega arith
 
 -- the words of a row below the capacity are in the table, and their numbers are small
 pub record RowWords (table : List ℕ) (i : ℕ) : Type 0 where
@@ -34,10 +34,6 @@ pub same_capacity : (a b : List ℕ) → length a ≡ length b → capacity a �
 unfolding capacity
 same_capacity a b e = rw e
 
--- the row that begins at a table word, and its key
+-- the row that begins at a table word
 pub row_back : (i : ℕ) → row_words * i / row_words ≡ i
 row_back i = omega arith
-
-pub key_read : (table : List ℕ) (at i : ℕ) → at ≡ row_words * i → get_or table at 0 ≡ (row_at table i).entry.key
-unfolding row_at
-key_read table at i begins = ap (λ p. get_or table p 0) begins

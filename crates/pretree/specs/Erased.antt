@@ -1,23 +1,25 @@
 -- What the small functions of `src/erase.rt` do, and what `del` has judged before it writes.
 -- Document 01: "All of it is judged before anything is written."
-use Rattle.std.specs.Prelude.{ℕ, zero, suc, pred, ◌/◌, ◌%◌, ◌^◌, ◌<◌, ◌≡◌, Bool, true, false, not, ◌&&◌, ◌||◌, List, [], ◌∷◌, ltb, eqb, if◌then◌else◌}
+use Rattle.std.specs.Prelude.{ℕ, zero, suc, pred, ◌<◌, ◌≡◌, ◌≢◌, Bool, true, false, ◌||◌, Option, Some, None, Result, Ok, Err, List, [], ◌∷◌}
 use Rattle.ordered.specs.Such.{Perhaps}
-use Rattle.ordered.specs.Word.{side_of}
+use Rattle.ordered.specs.Word.{left}
 use Rattle.ordered.specs.Way.{Step, rows, broken}
 use Rattle.ordered.specs.Change.{Take, Erasing, above_end}
 use Rattle.pretree.specs.declared.Header.{Header}
 use Rattle.pretree.specs.declared.Row.{Row}
 use Rattle.pretree.specs.declared.leg.Place.{Place}
-use Rattle.pretree.specs.declared.erase.Hook.{Hook}
+use Rattle.pretree.specs.declared.leg.Damaged.{Damaged}
+use Rattle.pretree.specs.declared.leg.Hook.{Hook}
 use Rattle.pretree.specs.declared.erase.Hole.{Hole}
 use Rattle.pretree.specs.declared.erase.Move.{Move}
-use Rattle.pretree.specs.Table.{capacity, row_at, entry_of, hooked, with_row, cleared}
+use Rattle.pretree.specs.Table.{capacity, row_at, entry_of, link, hooked, with_row, cleared}
 use Rattle.pretree.specs.Unfold.{shown}
 use Rattle.pretree.specs.Walk.{Walk, seeking, Walked}
 use Rattle.pretree.specs.Resume.{ends_at}
-use Rattle.pretree.specs.Leg.{Stands}
+use Rattle.pretree.specs.Leg.{Stands, first_side}
 use Rattle.pretree.specs.Add.{taking, hooking}
 use Rattle.pretree.specs.Del.{second_way, astray}
+use Rattle.pretree.specs.Push.{HookInTable}
 
 -- the key in row i
 abbrev pub key_in : List ℕ → ℕ → ℕ
@@ -31,25 +33,13 @@ pub record RowOfKey (h : Header) (table : List ℕ) (k : ℕ) (at : Place) (row_
   pub stands : Stands at walk
   pub above : row_above ≡ walk.above
 
--- Where a place with `bits` bits left is linked: at the row above, on the side that the last bit of the path says. The root, with `width` bits
--- left, is linked nowhere.
-abbrev pub hook_of : Place → ℕ → ℕ → ℕ → Hook
-hook_of at bits width above = record { linked = ltb bits width; above = above; side = at.path / 2 ^ bits % 2 }
-
-abbrev pub hooked_at : Hook → ℕ → List ℕ → List ℕ
-hooked_at k i table = hooked k.linked k.above (side_of k.side) i table
-
 -- a link set at the hook is a link set where the step p was made
-abbrev pub SameHook : Perhaps Step → Hook → Type 0
-SameHook p k = (i : ℕ) (table : List ℕ) → hooking p i table ≡ hooked_at k i table
-
--- the hook's row is one of the first n, if there is one, and its side is 0 or 1
-abbrev pub HookInTable : ℕ → Hook → Type 0
-HookInTable n k = (k.linked ≡ true → k.above < n) × (k.side < 2)
+abbrev pub SameHook : Perhaps Step → Option Hook → Type 0
+SameHook p k = (i : ℕ) (table : List ℕ) → hooking p i table ≡ hooked k i table
 
 -- "down by left link, else right link"
 abbrev pub row_below : Row → ℕ
-row_below r = if not (eqb r.left 0) then r.left else r.right
+row_below r = link r (first_side left r)
 
 -- "each row taking the key below": the first s rows of the stretch from row i
 unfoldable pub raising : (ℕ → Row) → ℕ → ℕ → List Take
@@ -73,17 +63,31 @@ pub record JudgedStretch (e : Erasing) (table : List ℕ) (hole : Hole) : Type 0
   pub row : e.hole ≡ hole.row
   pub hook : SameHook e.hook hole.hook
 
--- m describes the move of the last row into the hole, and says whether the second way is broken or astray
-pub record JudgedMove (h : Header) (table : List ℕ) (hole : ℕ) (m : Move) : Type 0 where
-  pub needed : m.needed ≡ not (eqb hole (pred h.count))
-  pub astray : m.astray ≡ (m.needed && (broken (second_way h table) || astray h table (second_way h table)))
-  pub rows : m.astray ≡ false → m.rows ≡ (if m.needed then rows (second_way h table) else 0)
-  pub hook : m.astray ≡ false → m.needed ≡ true → SameHook (above_end (second_way h table)) m.hook
+-- the second way is broken or astray
+abbrev pub strays : Header → List ℕ → Bool
+strays h table = broken (second_way h table) || astray h table (second_way h table)
 
--- a move that sets no link
-abbrev pub no_link : Bool → Bool → Move
-no_link needed astray =
-    record { needed = needed; astray = astray; hook = record { linked = false; above = 0; side = 0 }; rows = 0 }
+-- m describes the move of the last row, whose way is whole
+pub record WholeMove (h : Header) (table : List ℕ) (m : Move) : Type 0 where
+  pub whole : strays h table ≡ false
+  pub rows : rows (second_way h table) ≡ m.rows
+  pub hook : SameHook (above_end (second_way h table)) m.hook
+
+-- what was judged of the move of the last row into the hole: none is needed, or the second way is whole and the move is so, or that way is damaged
+abbrev pub JudgedMove : Header → List ℕ → ℕ → Result (Option Move) Damaged → Type 0
+JudgedMove h table hole (Ok None) = hole ≡ pred h.count
+JudgedMove h table hole (Ok (Some m)) = (hole ≢ pred h.count) × WholeMove h table m
+JudgedMove h table hole (Err e) = (hole ≢ pred h.count) × (strays h table ≡ true)
+
+-- the row above the moved row is one of the first n, if a move is needed
+abbrev pub MoveInTable : ℕ → Option Move → Type 0
+MoveInTable n None = Unit {0}
+MoveInTable n (Some m) = HookInTable n m.hook
+
+-- the moving count
+abbrev pub moved_rows : Option Move → ℕ
+moved_rows None = 0
+moved_rows (Some m) = m.rows
 
 -- all rows that will be written are in the table
 pub record Within (table : List ℕ) (hole : Hole) : Type 0 where
@@ -92,11 +96,12 @@ pub record Within (table : List ℕ) (hole : Hole) : Type 0 where
   pub used : hole.row < capacity table
 
 -- the last row moved into the hole and linked there, if a move is needed
-unfoldable pub filled : ℕ → ℕ → Move → List ℕ → List ℕ
-filled hole last m table = if m.needed then hooked_at m.hook hole (with_row hole (row_at table last) table) else table
+unfoldable pub filled : ℕ → ℕ → Option Move → List ℕ → List ℕ
+filled hole last None table = table
+filled hole last (Some m) table = hooked m.hook hole (with_row hole (row_at table last) table)
 
 -- keys up, unlink, move, set the link, clear
-unfoldable pub emptied : ℕ → Hole → Move → List ℕ → List ℕ
+unfoldable pub emptied : ℕ → Hole → Option Move → List ℕ → List ℕ
 emptied last hole m table =
     with_row last cleared
-    (filled hole.row last m (hooked_at hole.hook 0 (taking (raising (row_at table) hole.steps hole.from) table)))
+    (filled hole.row last m (hooked hole.hook 0 (taking (raising (row_at table) hole.steps hole.from) table)))

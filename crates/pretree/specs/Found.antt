@@ -1,38 +1,28 @@
 -- How the reading calls turn the end of a way into a reply: the contracts of their small functions.
-use Rattle.std.specs.Prelude.{ℕ, suc, ◌+◌, ◌%◌, ◌≡◌, Bool, true, false, not, ◌&&◌, ◌||◌, List, ltb, eqb, if◌then◌else◌}
+use Rattle.std.specs.Prelude.{ℕ, suc, ◌+◌, ◌%◌, ◌≡◌, Bool, true, false, not, ◌&&◌, ltb, eqb, if◌then◌else◌, Option, Some, None, Ok, Err}
 use Rattle.ordered.specs.Word.{left, right, side_of, is_side}
 use Rattle.ordered.specs.Way.{Way, way, rows, broken, staying, down}
 use Rattle.ordered.specs.Reading.{end_row}
 use Rattle.pretree.specs.declared.Header.{Header}
-use Rattle.pretree.specs.declared.Answer.TheVariants.{Serial, Word, WrongHeader, WordTooWide, Damage, NoSuchWord}
+use Rattle.pretree.specs.declared.Answer.TheVariants.{Serial, Word, Damage, NoSuchWord}
 use Rattle.pretree.specs.declared.Reply.{Reply}
 use Rattle.pretree.specs.declared.Row.{Row}
-use Rattle.pretree.specs.declared.leg.End.{End}
-use Rattle.pretree.specs.declared.leg.End as Ends
 use Rattle.pretree.specs.declared.leg.Place.{Place}
 use Rattle.pretree.specs.Walk.{Walk, Stage, On, AtNone, AtRow, AtDamage, tree_at, below}
-use Rattle.pretree.specs.Leg.{Stands}
-use Rattle.pretree.specs.Reply.{wrong_header, too_wide, refused, answered}
+use Rattle.pretree.specs.Leg.{End, Stands}
+use Rattle.pretree.specs.Reply.{refused, answered}
 use Rattle.pretree.specs.Find.{saying, word}
 
--- whether a call on the word k is refused, for its header or for the word; and the refusal, where the header comes first
-abbrev pub refuses : Header → List ℕ → ℕ → Bool
-refuses h table k = wrong_header h table || too_wide h k
-
-abbrev pub refusal : Header → List ℕ → Reply
-refusal h table = if wrong_header h table then refused h WrongHeader else refused h WordTooWide
-
--- `has` of k, by the end of its way: n rows were passed, and a row at the end counts as one more
-abbrev pub found_by : Header → ℕ → ℕ → End → Reply
-found_by h k n Ends.TheVariants.None = answered h NoSuchWord n
-found_by h k n (Ends.TheVariants.Row r) = if eqb k r.entry.key then answered h (Serial r.entry.serial) (n + 1) else answered h NoSuchWord (n + 1)
-found_by h k n Ends.TheVariants.Damage = refused h Damage
+-- `has` of k, by the row at the end of its way: n rows were passed, and a row at the end counts as one more
+abbrev pub found_by : Header → ℕ → ℕ → Option Row → Reply
+found_by h k n None = answered h NoSuchWord n
+found_by h k n (Some r) = if eqb k r.entry.key then answered h (Serial r.entry.serial) (n + 1) else answered h NoSuchWord (n + 1)
 
 -- the reply with the word at which a leg ended: n rows were read before that one
 abbrev pub word_by : Header → ℕ → End → Reply
-word_by h n Ends.TheVariants.None = answered h NoSuchWord n
-word_by h n (Ends.TheVariants.Row r) = answered h (Word r.entry.key) (n + 1)
-word_by h n Ends.TheVariants.Damage = refused h Damage
+word_by h n (Ok None) = answered h NoSuchWord n
+word_by h n (Ok (Some r)) = answered h (Word r.entry.key) (n + 1)
+word_by h n (Err d) = refused h Damage
 
 -- the reply of a call whose last way is w: the row at its end is the answer. n rows were read before w.
 abbrev pub then_by : Header → ℕ → Way → Reply

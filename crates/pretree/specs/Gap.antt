@@ -1,44 +1,45 @@
 -- What `gap` answers from the replies of `prev` and `next`: the contracts of its small functions.
-use Rattle.std.specs.Prelude.{ℕ, ◌-◌, ◌+◌, min}
+use Rattle.std.specs.Prelude.{ℕ, ◌-◌, ◌+◌, min, Option, Some, None, Result, Ok, Err, option_map}
 use Rattle.pretree.specs.declared.Header.{Header}
 use Rattle.pretree.specs.declared.Answer.{Answer}
 use Rattle.pretree.specs.declared.Answer.TheVariants.{Done, Serial, Word, Distance, WrongWidth, WrongHeader, WordTooWide, Damage, Full, ShortBuffer, AlreadyThere, NoSuchWord}
 use Rattle.pretree.specs.declared.Reply.{Reply}
-use Rattle.pretree.specs.declared.gap.Neighbour.{Neighbour}
-use Rattle.pretree.specs.declared.gap.Neighbour.TheVariants.{At, Nowhere, Unknown}
+use Rattle.pretree.specs.declared.leg.Damaged.{Damaged}
+use Rattle.pretree.specs.Leg.{damage}
 use Rattle.pretree.specs.Reply.{refused, answered}
 
--- what an answer says of the neighbour: its word, that there is none, or damage
-abbrev pub neighbour : Answer → Neighbour
-neighbour (Word x) = At x
-neighbour NoSuchWord = Nowhere
-neighbour Done = Unknown
-neighbour (Serial s) = Unknown
-neighbour (Distance d) = Unknown
-neighbour WrongWidth = Unknown
-neighbour WrongHeader = Unknown
-neighbour WordTooWide = Unknown
-neighbour Damage = Unknown
-neighbour Full = Unknown
-neighbour ShortBuffer = Unknown
-neighbour AlreadyThere = Unknown
+-- what an answer of `prev` or `next` says: its word, that there is none, or damage
+abbrev pub neighbour : Answer → Result (Option ℕ) Damaged
+neighbour (Word x) = Ok (Some x)
+neighbour NoSuchWord = Ok None
+neighbour Done = damage
+neighbour (Serial s) = damage
+neighbour (Distance d) = damage
+neighbour WrongWidth = damage
+neighbour WrongHeader = damage
+neighbour WordTooWide = damage
+neighbour Damage = damage
+neighbour Full = damage
+neighbour ShortBuffer = damage
+neighbour AlreadyThere = damage
 
--- the reply where the nearest word below is at the distance `lower`
-abbrev pub from_below : Header → ℕ → ℕ → ℕ → Neighbour → Reply
-from_below h k lower n (At x) = answered h (Distance (min lower (x - k))) n
-from_below h k lower n Nowhere = answered h (Distance lower) n
-from_below h k lower n Unknown = refused h Damage
+-- the smaller of two distances, or the only one there is
+abbrev pub smaller : Option ℕ → Option ℕ → Option ℕ
+smaller (Some a) (Some b) = Some (min a b)
+smaller (Some a) None = Some a
+smaller None b = b
 
--- the reply where no word is below
-abbrev pub from_above : Header → ℕ → ℕ → Neighbour → Reply
-from_above h k n (At x) = answered h (Distance (x - k)) n
-from_above h k n Nowhere = answered h NoSuchWord n
-from_above h k n Unknown = refused h Damage
+-- the distance from k to the nearer of its neighbours
+abbrev pub distance : ℕ → Result (Option ℕ) Damaged → Result (Option ℕ) Damaged → Result (Option ℕ) Damaged
+distance k (Ok below) (Ok above) = Ok (smaller (option_map (λ x. k - x) below) (option_map (λ x. x - k) above))
+distance k (Ok below) (Err d) = Err d
+distance k (Err d) above = Err d
 
-abbrev pub from_both : Header → ℕ → ℕ → Neighbour → Neighbour → Reply
-from_both h k n (At x) upper = from_below h k (k - x) n upper
-from_both h k n Nowhere upper = from_above h k n upper
-from_both h k n Unknown upper = refused h Damage
+-- the reply with that distance; n rows were read
+abbrev pub gap_at : Header → ℕ → Result (Option ℕ) Damaged → Reply
+gap_at h n (Ok (Some nearest)) = answered h (Distance nearest) n
+gap_at h n (Ok None) = answered h NoSuchWord n
+gap_at h n (Err d) = refused h Damage
 
 unfoldable pub between : Header → ℕ → Reply → Reply → Reply
-between h k lower upper = from_both h k (lower.rows + upper.rows) (neighbour lower.answer) (neighbour upper.answer)
+between h k lower upper = gap_at h (lower.rows + upper.rows) (distance k (neighbour lower.answer) (neighbour upper.answer))

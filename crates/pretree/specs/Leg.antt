@@ -1,11 +1,10 @@
 -- The legs of `src/leg.rt`, which do not follow a word's bits: where a leg is, how it judges a row, and the walk that goes with it.
-use Rattle.std.specs.Prelude.{ℕ, suc, ◌+◌, ◌*◌, ◌-◌, ◌/◌, ◌^◌, ◌≤◌, ◌<◌, ◌≡◌, Bool, false, not, ◌&&◌, ◌||◌, ltb, leb, eqb, if◌then◌else◌}
+use Rattle.std.specs.Prelude.{ℕ, suc, ◌+◌, ◌*◌, ◌-◌, ◌/◌, ◌^◌, ◌≤◌, ◌<◌, ◌≡◌, Bool, false, not, ◌&&◌, ◌||◌, ltb, leb, eqb, if◌then◌else◌, Option, Some, None, Result, Ok, Err}
 use Rattle.std.specs.Int.Bits.{bit_xor, bit_and}
-use Rattle.ordered.specs.Word.{Side, side_of, bit_of}
+use Rattle.ordered.specs.Word.{Side, left, right, other, bit_of}
 use Rattle.ordered.specs.Way.{Way, Rule}
 use Rattle.pretree.specs.declared.Row as Rows
-use Rattle.pretree.specs.declared.leg.End.{End}
-use Rattle.pretree.specs.declared.leg.End.TheVariants.{None, Row, Damage}
+use Rattle.pretree.specs.declared.leg.Damaged.{Damaged}
 use Rattle.pretree.specs.declared.leg.Place.{Place}
 use Rattle.pretree.specs.declared.leg.Leg.{Leg}
 use Rattle.pretree.specs.Table.{entry_of, link}
@@ -26,18 +25,29 @@ abbrev pub below_place : Place → Rows.Row → Side → Place
 below_place p r s =
     record { row = link r s; mask = p.mask / 2; path = p.path + bit_of s * suc (p.mask / 2); low = suc r.entry.key }
 
+-- how a leg ends: at an empty link, at a row or at damage
+abbrev pub End : Type 0
+End = Result (Option Rows.Row) Damaged
+
+abbrev pub damage : {A : Type 0} → Result A Damaged
+damage = Err (record {})
+
 -- what a leg finds at its row; and at a link, which may be empty
-abbrev pub row_end : (ℕ → Rows.Row) → ℕ → Place → End
-row_end rows count p = if ltb p.row count && judges p (rows p.row) then Row (rows p.row) else Damage
+abbrev pub row_end : (ℕ → Rows.Row) → ℕ → Place → Result Rows.Row Damaged
+row_end rows count p = if ltb p.row count && judges p (rows p.row) then Ok (rows p.row) else damage
+
+abbrev pub as_end : Result Rows.Row Damaged → End
+as_end (Ok r) = Ok (Some r)
+as_end (Err d) = Err d
 
 abbrev pub link_end : (ℕ → Rows.Row) → ℕ → Place → End
-link_end rows count p = if eqb p.row 0 then None else row_end rows count p
+link_end rows count p = if eqb p.row 0 then Ok None else as_end (row_end rows count p)
 
--- the walk ended as the code's `End` says
+-- the walk ended as a leg did
 abbrev pub EndsAs : (ℕ → Rows.Row) → Walk → End → Type 0
-EndsAs rows w None = w.stage ≡ AtNone
-EndsAs rows w (Row r) = (w.stage ≡ AtRow) × (r ≡ rows w.row) × (w.entry ≡ entry_of r)
-EndsAs rows w Damage = w.stage ≡ AtDamage
+EndsAs rows w (Ok None) = w.stage ≡ AtNone
+EndsAs rows w (Ok (Some r)) = (w.stage ≡ AtRow) × (r ≡ rows w.row) × (w.entry ≡ entry_of r)
+EndsAs rows w (Err d) = w.stage ≡ AtDamage
 
 -- The place is where the walk is. The path of a place is a word: the least one with the bits of the walk's path.
 pub record Stands (p : Place) (w : Walk) : Type 0 where
@@ -64,9 +74,9 @@ abbrev pub passes_down : (ℕ → Rows.Row) → ℕ → Place → Bool
 passes_down rows count p =
     ltb p.row count && (judges p (rows p.row) && not (eqb (rows p.row).left 0 && eqb (rows p.row).right 0))
 
--- the side s if the row has a link there, else the other side. A side is a number here, as in the code: 0 is left, 1 is right.
-abbrev pub first_side : ℕ → Rows.Row → ℕ
-first_side s r = if eqb (link r (side_of s)) 0 then 1 - s else s
+-- the side s if the row has a link there, else the other side
+abbrev pub first_side : Side → Rows.Row → Side
+first_side s r = if eqb (link r s) 0 then other s else s
 
 -- a push passes an undamaged row if bits are left there
 abbrev pub passes_push : (ℕ → Rows.Row) → ℕ → Place → Bool
@@ -74,8 +84,26 @@ passes_push rows count p =
     not (eqb p.row 0) && (ltb p.row count && (judges p (rows p.row) && not (eqb p.mask 0)))
 
 -- the side to which a key's own bits push it
-abbrev pub own_side : ℕ → ℕ → ℕ
-own_side mask key = if ltb (mask / 2) (bit_and key mask) then 1 else 0
+abbrev pub own_side : ℕ → ℕ → Side
+own_side mask key = if ltb (mask / 2) (bit_and key mask) then right else left
+
+-- the leg past a row, by its link on a side
+abbrev pub leg_past : Leg → Rows.Row → Side → Leg
+leg_past l r s = record { at = below_place l.at r s; above = l.at.row }
+
+-- the leg past its row, if it passes the row
+abbrev pub past_linked : (ℕ → Rows.Row) → ℕ → Side → Leg → Option Leg
+past_linked rows count s l =
+    if passes_down rows count l.at then Some (leg_past l (rows l.at.row) (first_side s (rows l.at.row))) else None
+
+abbrev pub past_pushed : (ℕ → Rows.Row) → ℕ → Leg → Option Leg
+past_pushed rows count l =
+    if passes_push rows count l.at then Some (leg_past l (rows l.at.row) (own_side l.at.mask (rows l.at.row).entry.key)) else None
+
+-- the leg has gone on from l, by the steps that R allows
+pub data Led (R : Leg → Option Leg → Type 0) (l : Leg) : Leg → Type 0 where
+  began : Led R l l
+  further : {m n : Leg} → Led R l m → R m (Some n) → Led R l n
 
 -- like `stage_at`, for a row to which no link led: here 0 is the root, not an empty link
 abbrev pub stage_here : ℕ → ℕ → Stage

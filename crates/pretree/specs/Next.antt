@@ -1,17 +1,14 @@
 -- The steps of `src/next.rt`: the place of the next greater word once the way of k has ended, and the reply.
-use Rattle.std.specs.Prelude.{ℕ, suc, ◌+◌, ◌-◌, ltb, eqb, if◌then◌else◌}
+use Rattle.std.specs.Prelude.{ℕ, suc, ◌+◌, ◌-◌, ltb, eqb, if◌then◌else◌, Option, Some, None}
 use Rattle.std.specs.Int.Bits.{bit_and, bit_or}
-use Rattle.ordered.specs.Word.{side_of}
 use Rattle.pretree.specs.declared.Header.{Header}
-use Rattle.pretree.specs.declared.Answer.TheVariants.{Word, Damage}
+use Rattle.pretree.specs.declared.Answer.TheVariants.{Word}
 use Rattle.pretree.specs.declared.Reply.{Reply}
 use Rattle.pretree.specs.declared.Row as Rows
-use Rattle.pretree.specs.declared.leg.End.{End}
-use Rattle.pretree.specs.declared.leg.End as Ends
 use Rattle.pretree.specs.declared.leg.Place.{Place}
 use Rattle.pretree.specs.declared.seek.Seek.{Seek}
 use Rattle.pretree.specs.Table.{link}
-use Rattle.pretree.specs.Reply.{refused, answered}
+use Rattle.pretree.specs.Reply.{answered}
 use Rattle.pretree.specs.Leg.{link_end}
 use Rattle.pretree.specs.Seek.{row_of, bits_left_by, turn, stepped}
 use Rattle.pretree.specs.Found.{word_by}
@@ -26,11 +23,10 @@ next_place s k =
 abbrev pub next_from : Header → (ℕ → Rows.Row) → ℕ → Seek → ℕ → Reply
 next_from h rows k s n = word_by h n (link_end rows h.count (next_place s k))
 
--- `next` of k, by the end of the way of k. Past a row with the key k the seek goes one row further down.
-abbrev pub next_at : Header → (ℕ → Rows.Row) → ℕ → Seek → End → Reply
-next_at h rows k s Ends.TheVariants.Damage = refused h Damage
-next_at h rows k s Ends.TheVariants.None = next_from h rows k s (h.width - bits_left_by s.mask)
-next_at h rows k s (Ends.TheVariants.Row r) =
+-- `next` of k, by the row at the end of the way of k. Past a row with the key k the seek goes one row further down.
+abbrev pub next_at : Header → (ℕ → Rows.Row) → ℕ → Seek → Option Rows.Row → Reply
+next_at h rows k s None = next_from h rows k s (h.width - bits_left_by s.mask)
+next_at h rows k s (Some r) =
     let passed : ℕ = h.width - bits_left_by s.mask in
     if ltb k r.entry.key then answered h (Word r.entry.key) (passed + 1)
-    else next_from h rows k (stepped s (link r (side_of (turn s))) r.right) (passed + 1)
+    else next_from h rows k (stepped s (link r (turn s)) r.right) (passed + 1)

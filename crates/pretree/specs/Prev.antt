@@ -1,16 +1,13 @@
 -- The steps of `src/prev.rt`: the number of rows of the way of k, and the place of the left part of the last row that it passed.
-use Rattle.std.specs.Prelude.{ℕ, suc, ◌+◌, ◌*◌, ◌-◌, ◌/◌, ◌%◌, ◌^◌, eqb, if◌then◌else◌}
+use Rattle.std.specs.Prelude.{ℕ, suc, ◌+◌, ◌*◌, ◌-◌, ◌/◌, ◌%◌, ◌^◌, eqb, if◌then◌else◌, Option, Some, None}
 use Rattle.std.specs.Int.Bits.{bit_and}
 use Rattle.pretree.specs.declared.Row as Rows
-use Rattle.pretree.specs.declared.leg.End.{End}
-use Rattle.pretree.specs.declared.leg.End.TheVariants.{None, Row, Damage}
 use Rattle.pretree.specs.declared.leg.Place.{Place}
 
 -- the number of rows that a way reads: those that it passed, and the row at its end
-abbrev pub rows_to : End → ℕ → ℕ
+abbrev pub rows_to : Option Rows.Row → ℕ → ℕ
 rows_to None passed = passed
-rows_to (Row r) passed = passed + 1
-rows_to Damage passed = passed + 1
+rows_to (Some r) passed = passed + 1
 
 -- the left link of the row r, with m bits left below it, if the way of k turned right there
 abbrev pub left_if_right : ℕ → ℕ → Rows.Row → ℕ

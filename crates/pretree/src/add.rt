@@ -6,12 +6,11 @@ ghost use Rattle.std.specs.Prelude.{◌≡◌, false, ◌-◌, ◌≤◌, ◌<�
 ghost use Rattle.pretree.specs.Table.{capacity, row_at, from_code};
 ghost use Rattle.pretree.specs.Reply.{wrong_header, too_wide};
 ghost use Rattle.pretree.specs.Add.{entry_for, add_outcome, taking};
-ghost use Rattle.pretree.specs.Push.{takes_from, left_from, Rising, end_bits, end_side, Growable, grown_outcome, Displaces};
+ghost use Rattle.pretree.specs.Push.{takes_from, left_from, Rising, end_bits, hook_of, Growable, grown_outcome, Displaces};
 
-use crate::leg::{End, Leg, Place, bits_of, link_end, own_side, pushed};
-use crate::seek::{seek_end, sought};
-use crate::table::{capacity, row_at};
-use crate::write::{hook, put_entry, put_row, put_serial, side_of};
+use crate::leg::{Leg, Place, Side, bits_of, hook_of, own_side};
+use crate::table::{Rows, capacity, row_at};
+use crate::write::{hook, put_entry, put_row, put_serial};
 use crate::{Answer, Entry, Header, Reply, Row};
 
 impl Header {
@@ -21,42 +20,23 @@ impl Header {
         ensures value { result ≡ (add_outcome self table.old (entry_for word serial)).reply }
         ensures table_after { table.new ≡ (add_outcome self table.old (entry_for word serial)).table }
     {
-        if self.refuses(table, word) {
-            return self.refusal(table);
-        }
         let entry = Entry { key: word, serial };
-        if self.count == 0 {
-            let start = Leg {
-                at: Place::root(self.width),
-                above: 0,
-            };
-            return self.grown(table, entry, 0, self.width, start);
-        }
-        let s = sought(table, self, word);
-        let end = seek_end(table, self.count as usize, word, s);
-        match end {
-            End::Damage => self.refused(Answer::Damage),
-            End::None => self.grown(
-                table,
-                entry,
-                s.at / Header::ROW,
-                bits_of(s.mask),
-                Leg {
-                    at: s.place(word),
-                    above: s.above / Header::ROW,
-                },
-            ),
-            End::Row(row) => {
-                if row.entry.key == word {
+        match self.way(table, word) {
+            Ok((_, s, row)) => match row {
+                None => self.grown(table, entry, s.at / Header::ROW, bits_of(s.mask), s.leg()),
+                Some(row) if row.entry.key == word => {
                     put_serial(table, s.at / Header::ROW, serial);
-                    return self.answered(Answer::AlreadyThere, self.width - bits_of(s.mask) + 1);
+                    self.answered(Answer::AlreadyThere, self.width - bits_of(s.mask) + 1)
                 }
-                self.displaced(table, entry, s.place(word), row)
-            }
+                Some(row) => self.displaced(table, entry, s.place(), row),
+            },
+            Err(answer) => self.refused(answer),
         }
     }
 
     // The way of the word ended at `row`, whose key is greater: "its old key is pushed down by its own bits".
+    // Clause `header` is in all four that write: methods of a struct with the `&mut` table would each have to ensure that they keep the reference.
+    #[tactic(auto, using(crate::proofs::Displacing::inner_place))]
     fn displaced(self, table: &mut [u32], entry: Entry, at: Place, row: Row) -> Reply
         requires header { wrong_header self table.old ≡ false }
         requires width { too_wide self entry.key ≡ false }
@@ -68,9 +48,13 @@ impl Header {
             at: at.below(row, own_side(at.mask, row.entry.key)),
             above: at.row,
         };
-        let leg = pushed(table, self.count as usize, start);
-        let end = link_end(table, self.count as usize, leg.at);
-        if let End::Damage = end {
+        let rows = Rows {
+            table,
+            header: self,
+        };
+        let leg = rows.pushed(start);
+        let end = rows.link_end(leg.at);
+        if end.is_err() {
             return self.refused(Answer::Damage);
         }
         self.grown(table, entry, at.row, bits_of(at.mask), leg)
@@ -78,24 +62,19 @@ impl Header {
 
     // "The new row is row `count`, with both links 0, linked where the way or the push ended": `leg` is there. The push began at row `from`, where
     // `bits` bits are left.
+    #[tactic(auto, using(crate::proofs::Checks::right_header, crate::proofs::Writing::same_capacity, crate::proofs::Adding::on_full, crate::proofs::Adding::on_done, crate::proofs::Adding::writes_grow))]
     fn grown(self, table: &mut [u32], entry: Entry, from: usize, bits: u32, leg: Leg) -> Reply
         requires header { wrong_header self table.old ≡ false }
-        requires growable { Growable self table.old from bits (end_bits leg) leg.above }
-        ensures value { result ≡ (grown_outcome self table.old entry from bits (end_bits leg) leg.above (end_side leg)).reply }
-        ensures table_after { table.new ≡ (grown_outcome self table.old entry from bits (end_bits leg) leg.above (end_side leg)).table }
+        requires growable { Growable self table.old from bits (end_bits leg) (hook_of leg self.width) }
+        ensures value { result ≡ (grown_outcome self table.old entry from bits (end_bits leg) (hook_of leg self.width)).reply }
+        ensures table_after { table.new ≡ (grown_outcome self table.old entry from bits (end_bits leg) (hook_of leg self.width)).table }
     {
         if self.count == capacity(table) {
             return self.refused(Answer::Full);
         }
         let end = bits_of(leg.at.mask);
         let left = push(table, from, bits, end, entry);
-        hook(
-            table,
-            end < self.width,
-            leg.above,
-            side_of(leg.at, end),
-            self.count,
-        );
+        hook(table, hook_of(leg, self.width), self.count);
         put_row(
             table,
             self.count as usize,
@@ -122,19 +101,12 @@ fn push(table: &mut [u32], from: usize, bits: u32, end: u32, entry: Entry) -> En
     ensures table_after { table.new ≡ taking (takes_from (row_at table.old) end (bits - end) from entry) table.old }
 {
     let mut at = from;
-    let mut left = bits;
     let mut carried = entry;
-    while end < left {
-        left = left - 1;
+    for left in (end..bits).rev() {
         let row = row_at(table, at);
-        let next = if (row.entry.key >> left) % 2 == 0 {
-            row.left
-        } else {
-            row.right
-        };
         put_entry(table, at, carried);
         carried = row.entry;
-        at = next as usize;
+        at = row.link(Side::of(carried.key, left)) as usize;
     }
     carried
 }

@@ -1,44 +1,43 @@
 // `gap`: the distance to the nearest word.
 
-ghost use Rattle.std.specs.Prelude.{◌≡◌, false, ◌-◌, min};
-ghost use Rattle.pretree.specs.Reply.{wrong_header, too_wide};
+ghost use Rattle.std.specs.Prelude.{◌≡◌, false};
+ghost use Rattle.pretree.specs.Reply.{too_wide};
 ghost use Rattle.pretree.specs.Find.{gap_reply, prev_reply, next_reply};
-ghost use Rattle.pretree.specs.Gap.{neighbour, from_below, from_above, between};
+ghost use Rattle.pretree.specs.Gap.{neighbour, smaller, distance, between};
 
-use crate::leg::{End, bits_of};
-use crate::seek::{seek_end, sought};
+use crate::leg::{Damaged, bits_of};
+use crate::table::Rows;
 use crate::{Answer, Header, Reply};
 
-// What `prev` or `next` found: a word, that there is none, or damage.
-#[derive(Clone, Copy)]
-pub enum Neighbour {
-    At(u32),
-    Nowhere,
-    Unknown,
-}
-
-fn neighbour_in(answer: Answer) -> Neighbour
+// What the answer of `prev` or `next` says: its word, or that there is none.
+fn neighbour_in(answer: Answer) -> Result<Option<u32>, Damaged>
     ensures { result ≡ neighbour answer }
 {
-    if let Answer::Word(word) = answer {
-        return Neighbour::At(word);
+    match answer {
+        Answer::Word(word) => Ok(Some(word)),
+        Answer::NoSuchWord => Ok(None),
+        _ => Err(Damaged),
     }
-    if let Answer::NoSuchWord = answer {
-        return Neighbour::Nowhere;
-    }
-    Neighbour::Unknown
 }
 
-fn distance(from: u32, to: u32) -> u32
-    ensures { result ≡ to - from }
+// "the smaller of the distances to `prev` and `next`, or the only one there is"
+fn smaller(lower: Option<u32>, upper: Option<u32>) -> Option<u32>
+    ensures { result ≡ smaller lower upper }
 {
-    if from <= to { to - from } else { 0 }
+    match (lower, upper) {
+        (Some(a), Some(b)) => Some(a.min(b)),
+        (None, one) => one,
+        (one, None) => one,
+    }
 }
 
-fn smaller(a: u32, b: u32) -> u32
-    ensures { result ≡ min a b }
+// The distance from the word to the nearer neighbour, by the answers of `prev` and `next`.
+fn distance(word: u32, below: Answer, above: Answer) -> Result<Option<u32>, Damaged>
+    ensures { result ≡ distance word (neighbour below) (neighbour above) }
 {
-    if a <= b { a } else { b }
+    let lower = neighbour_in(below)?.map(|p| word.saturating_sub(p));
+    let upper = neighbour_in(above)?.map(|n| n.saturating_sub(word));
+    Ok(smaller(lower, upper))
 }
 
 impl Header {
@@ -46,65 +45,33 @@ impl Header {
     pub fn gap(self, table: &[u32], word: u32) -> Reply
         ensures { result ≡ gap_reply self table.now word }
     {
-        if self.refuses(table, word) {
-            return self.refusal(table);
+        match self.way(table, word) {
+            Ok((rows, s, row)) => match row {
+                Some(row) if row.entry.key == word => self.answered(
+                    Answer::Distance(0),
+                    self.width - bits_of(s.mask) + 1,
+                ),
+                _ => rows.nearest(word),
+            },
+            Err(answer) => self.refused(answer),
         }
-        if self.count == 0 {
-            return self.answered(Answer::NoSuchWord, 0);
-        }
-        let s = sought(table, self, word);
-        let end = seek_end(table, self.count as usize, word, s);
-        if let End::Damage = end {
-            return self.refused(Answer::Damage);
-        }
-        if let End::Row(row) = end {
-            if row.entry.key == word {
-                return self.answered(Answer::Distance(0), self.width - bits_of(s.mask) + 1);
-            }
-        }
-        self.nearest(table, word)
     }
+}
 
-    // "its count is the two counts added"
-    fn nearest(self, table: &[u32], word: u32) -> Reply
-        requires header { wrong_header self table.now ≡ false }
-        requires width { too_wide self word ≡ false }
-        ensures { result ≡ between self word (prev_reply self table.now word) (next_reply self table.now word) }
+impl<'t> Rows<'t> {
+    // "its count is the two counts added". That the word is below 2^W is asked here and by four others, of different words.
+    fn nearest(&self, word: u32) -> Reply
+        requires width { too_wide self.now.header word ≡ false }
+        ensures { result ≡ between self.now.header word (prev_reply self.now.header self.now.table.now word) (next_reply self.now.header self.now.table.now word) }
     {
-        let below = self.prev(table, word);
-        let above = self.next(table, word);
+        let h = self.header;
+        let below = h.prev(self.table, word);
+        let above = h.next(self.table, word);
         let rows = below.rows + above.rows;
-        let answer = below.answer;
-        let lower = neighbour_in(answer);
-        let answer = above.answer;
-        let upper = neighbour_in(answer);
-        match lower {
-            Neighbour::At(p) => self.from_below(word, distance(p, word), upper, rows),
-            Neighbour::Nowhere => self.from_above(word, upper, rows),
-            Neighbour::Unknown => self.refused(Answer::Damage),
-        }
-    }
-
-    fn from_below(self, word: u32, lower: u32, upper: Neighbour, rows: u32) -> Reply
-        ensures { result ≡ from_below self word lower rows upper }
-    {
-        match upper {
-            Neighbour::At(n) => self.answered(
-                Answer::Distance(smaller(lower, distance(word, n))),
-                rows,
-            ),
-            Neighbour::Nowhere => self.answered(Answer::Distance(lower), rows),
-            Neighbour::Unknown => self.refused(Answer::Damage),
-        }
-    }
-
-    fn from_above(self, word: u32, upper: Neighbour, rows: u32) -> Reply
-        ensures { result ≡ from_above self word rows upper }
-    {
-        match upper {
-            Neighbour::At(n) => self.answered(Answer::Distance(distance(word, n)), rows),
-            Neighbour::Nowhere => self.answered(Answer::NoSuchWord, rows),
-            Neighbour::Unknown => self.refused(Answer::Damage),
+        match distance(word, below.answer, above.answer) {
+            Ok(Some(nearest)) => h.answered(Answer::Distance(nearest), rows),
+            Ok(None) => h.answered(Answer::NoSuchWord, rows),
+            Err(Damaged) => h.refused(Answer::Damage),
         }
     }
 }

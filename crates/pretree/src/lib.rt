@@ -16,10 +16,11 @@ mod whole;
 mod write;
 
 ghost use Rattle.std.specs.Prelude.{◌≡◌};
+ghost use Rattle.pretree.specs.Answer.{number_of, key_of, serial_of};
 ghost use Rattle.pretree.specs.Reply.{fresh};
 
 // "The header is two numbers, W and the count of words."
-#[derive(Clone, Copy)]
+#[derive(Clone, Copy, Debug, PartialEq, Eq)]
 pub struct Header {
     pub width: u32,
     pub count: u32,
@@ -41,9 +42,9 @@ impl Header {
     }
 }
 
-// The kind of answer with its key or serial. `number_of`, `key_of` and `serial_of`, in specs/Answer.antt, give the documents' number, key and serial
-// for each.
-#[derive(Clone, Copy)]
+// "Every reply is a struct: the kind of answer with its key, and the two row counts beside it." A refusal is an answer like the others, with its
+// number. So this is one enum and no `Result`: the demands of document 01 are theorems over it.
+#[derive(Clone, Copy, Debug, PartialEq, Eq)]
 pub enum Answer {
     Done,
     // `has` found its word, which has this serial.
@@ -60,8 +61,50 @@ pub enum Answer {
     NoSuchWord,
 }
 
+impl Answer {
+    // The documents' number for the answer. A match, since an enum whose variants hold values can't be cast to a number.
+    #[tactic(auto, unfolding(crate::specs::Answer::number_of))]
+    pub fn number(self) -> u32
+        ensures { result ≡ number_of self }
+    {
+        match self {
+            Answer::Done | Answer::Serial(_) | Answer::Word(_) | Answer::Distance(_) => 0,
+            Answer::WrongWidth => 1,
+            Answer::WrongHeader => 2,
+            Answer::WordTooWide => 3,
+            Answer::Damage => 4,
+            Answer::Full => 5,
+            Answer::ShortBuffer => 6,
+            Answer::AlreadyThere => 7,
+            Answer::NoSuchWord => 8,
+        }
+    }
+
+    // "the word for `next`, `prev`, `first`, `last`; the distance for `gap`; else none"
+    #[tactic(auto, unfolding(crate::specs::Answer::key_of))]
+    pub fn key(self) -> Option<u32>
+        ensures { result ≡ key_of self }
+    {
+        match self {
+            Answer::Word(k) | Answer::Distance(k) => Some(k),
+            _ => None,
+        }
+    }
+
+    // Document 02 §1: "the serial for a `has` that found its word, `-` elsewhere"
+    #[tactic(auto, unfolding(crate::specs::Answer::serial_of))]
+    pub fn serial(self) -> Option<u32>
+        ensures { result ≡ serial_of self }
+    {
+        match self {
+            Answer::Serial(s) => Some(s),
+            _ => None,
+        }
+    }
+}
+
 // "Every reply is a struct: the kind of answer with its key, and the two row counts beside it."
-#[derive(Clone, Copy)]
+#[derive(Clone, Copy, Debug, PartialEq, Eq)]
 pub struct Reply {
     pub header: Header,
     pub answer: Answer,
@@ -70,7 +113,7 @@ pub struct Reply {
 }
 
 // A call, with its numbers: `Add` has the word and its serial. `after`, in specs/Call.antt, says what each answers and leaves.
-#[derive(Clone, Copy)]
+#[derive(Clone, Copy, Debug, PartialEq, Eq)]
 pub enum Call {
     New(u32),
     Add(u32, u32),
@@ -86,13 +129,13 @@ pub enum Call {
 }
 
 // What a push or an erase moves from row to row.
-#[derive(Clone, Copy)]
+#[derive(Clone, Copy, Debug, Default, PartialEq, Eq)]
 pub struct Entry {
     pub key: u32,
     pub serial: u32,
 }
 
-#[derive(Clone, Copy)]
+#[derive(Clone, Copy, Debug, Default, PartialEq, Eq)]
 pub struct Row {
     pub entry: Entry,
     pub left: u32,

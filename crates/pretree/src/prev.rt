@@ -1,16 +1,13 @@
 // `prev`: the greatest word less than k.
 
-ghost use Rattle.std.specs.Prelude.{◌≡◌, false, ◌≤◌, ◌<◌, ◌^◌};
-ghost use Rattle.pretree.specs.Table.{row_at};
-ghost use Rattle.pretree.specs.Unfold.{shown};
-ghost use Rattle.pretree.specs.Reply.{wrong_header, too_wide};
+ghost use Rattle.std.specs.Prelude.{◌≡◌, ◌<◌, ◌^◌, Ok};
 ghost use Rattle.pretree.specs.Find.{prev_reply};
-ghost use Rattle.pretree.specs.Seek.{end_at, Sought};
-ghost use Rattle.pretree.specs.Prev.{rows_to, left_if_right, left_place};
+ghost use Rattle.pretree.specs.Seek.{WayEnds};
+ghost use Rattle.pretree.specs.Prev.{left_if_right, left_place};
 
-use crate::leg::{End, Place, bits_of};
-use crate::seek::{Seek, seek_end, sought};
-use crate::table::row_at;
+use crate::leg::{Place, Side, bits_of};
+use crate::seek::Seek;
+use crate::table::{Rows, row_at};
 use crate::{Answer, Header, Reply, Row};
 
 impl Header {
@@ -18,63 +15,45 @@ impl Header {
     pub fn prev(self, table: &[u32], word: u32) -> Reply
         ensures { result ≡ prev_reply self table.now word }
     {
-        if self.refuses(table, word) {
-            return self.refusal(table);
+        match self.way(table, word) {
+            Ok((rows, s, row)) => rows.prev_at(s, row),
+            Err(answer) => self.refused(answer),
         }
-        if self.count == 0 {
-            return self.answered(Answer::NoSuchWord, 0);
-        }
-        let s = sought(table, self, word);
-        let end = seek_end(table, self.count as usize, word, s);
-        self.prev_at(table, word, s, end)
     }
+}
 
+impl<'t> Rows<'t> {
     // "Let p be its last row with key below k. No such row: none. If the way turned right at p and p has a left child, go down from that child"
-    fn prev_at(self, table: &[u32], word: u32, s: Seek, end: End) -> Reply
-        requires header { wrong_header self table.now ≡ false }
-        requires width { too_wide self word ≡ false }
-        requires some { 0 < self.count }
-        requires sought { Sought (row_at table.now) self (shown self table.now) word s }
-        requires end { end ≡ end_at (row_at table.now) self.count word s }
-        ensures { result ≡ prev_reply self table.now word }
+    fn prev_at(&self, s: Seek, row: Option<Row>) -> Reply
+        requires way { WayEnds self.now.header self.now.table.now s.word s (Ok row) }
+        ensures { result ≡ prev_reply self.now.header self.now.table.now s.word }
     {
-        if let End::Damage = end {
-            return self.refused(Answer::Damage);
-        }
         let bits = bits_of(s.mask);
-        let passed = self.width - bits;
-        let rows = rows_to(end, passed);
+        let passed = self.header.width - bits;
+        // the rows that the way passed, and the row at its end
+        let rows = passed + u32::from(row.is_some());
         if passed == 0 {
-            return self.answered(Answer::NoSuchWord, rows);
+            return self.header.answered(Answer::NoSuchWord, rows);
         }
-        let last = row_at(table, s.above / Header::ROW);
-        if left_if_right(word, bits, last) == Header::NONE {
-            return self.answered(Answer::Word(last.entry.key), rows);
+        let last = row_at(self.table, s.above / Header::ROW);
+        if left_if_right(s.word, bits, last) == Header::NONE {
+            return self.header.answered(Answer::Word(last.entry.key), rows);
         }
-        self.greatest(table, Place::left_of(last, s.mask), rows)
+        self.greatest(Place::left_of(last, s.mask), rows)
     }
 }
 
-// The number of rows that a way reads: those that it passed, and the row at its end.
-fn rows_to(end: End, passed: u32) -> u32
-    requires few { passed ≤ 32 }
-    ensures { result ≡ rows_to end passed }
-{
-    if let End::None = end {
-        return passed;
-    }
-    passed + 1
-}
-
-// The left link of `last`, the last row that the way passed, if the way turned right there; else none.
+// The left link of `last`, the last row that the way passed, if the way turned right there; else none. A link as the table has it:
+// "A link of 0 means none."
+#[tactic(auto, unfolding(ordered::specs::Word::side))]
 fn left_if_right(word: u32, bits: u32, last: Row) -> u32
     requires few { bits < 32 }
     ensures { result ≡ left_if_right word bits last }
 {
-    if (word >> bits) % 2 == 0 {
-        return Header::NONE;
+    match Side::of(word, bits) {
+        Side::Left => Header::NONE,
+        Side::Right => last.left,
     }
-    last.left
 }
 
 impl Place {

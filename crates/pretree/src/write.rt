@@ -1,21 +1,16 @@
 // The writes to a lent table: an entry, a serial, a link or a whole row.
+// They take the table and a row's number, and not a view of its four words: a view is no plainer, since it needs the same clause where it is made, and
+// another that says what a write to it leaves in the table.
 
-ghost use Rattle.std.specs.Prelude.{◌≡◌, true, ◌/◌, ◌%◌, ◌^◌, ◌<◌, ◌≤◌};
-ghost use Rattle.ordered.specs.Word.{side_of};
-ghost use Rattle.pretree.specs.Table.{capacity, from_code, with_entry, with_serial, with_link, with_row, hooked};
+ghost use Rattle.std.specs.Prelude.{◌≡◌, ◌<◌};
+ghost use Rattle.pretree.specs.Table.{capacity, from_code, to_side, with_entry, with_serial, with_link, with_row, hooked};
+ghost use Rattle.pretree.specs.Push.{HookInTable};
 
-use crate::leg::Place;
+use crate::leg::{Hook, Side};
 use crate::{Entry, Header, Row};
 
-// The side of the row above on which a place with `bits` bits left is linked: 0 is left, 1 is right.
-pub(crate) fn side_of(at: Place, bits: u32) -> u32
-    requires narrow { bits ≤ 32 }
-    ensures { result ≡ at.path / 2 ^ bits % 2 }
-{
-    (((at.path as u64) >> bits) % 2) as u32
-}
-
 // Row i takes the key and the serial of an entry.
+#[tactic(auto, unfolding(crate::specs::Table::capacity, crate::specs::Table::with_entry, crate::specs::Table::with_serial))]
 pub(crate) fn put_entry(table: &mut [u32], i: usize, entry: Entry)
     requires { i < capacity table.old }
     ensures { table.new ≡ with_entry i (from_code entry) table.old }
@@ -26,6 +21,7 @@ pub(crate) fn put_entry(table: &mut [u32], i: usize, entry: Entry)
 }
 
 // Row i keeps its key and takes another serial.
+#[tactic(auto, unfolding(crate::specs::Table::capacity, crate::specs::Table::with_serial))]
 pub(crate) fn put_serial(table: &mut [u32], i: usize, serial: u32)
     requires { i < capacity table.old }
     ensures { table.new ≡ with_serial i serial table.old }
@@ -34,33 +30,32 @@ pub(crate) fn put_serial(table: &mut [u32], i: usize, serial: u32)
     table[at] = serial;
 }
 
-// Sets the link of row i on one side: 0 is left, 1 is right.
-pub(crate) fn put_link(table: &mut [u32], i: usize, side: u32, link: u32)
-    requires { (i < capacity table.old) × (side < 2) }
-    ensures { table.new ≡ with_link i (side_of side) link table.old }
+// Sets the link of row i on one side.
+#[tactic(auto, using(crate::proofs::Writing::cast_side, crate::proofs::Writing::bit_small), unfolding(crate::specs::Table::capacity, crate::specs::Table::with_link))]
+pub(crate) fn put_link(table: &mut [u32], i: usize, side: Side, link: u32)
+    requires { i < capacity table.old }
+    ensures { table.new ≡ with_link i (to_side side) link table.old }
 {
     let at = Header::ROW * i + 1 + (side as usize);
     table[at] = link;
 }
 
-// Sets the link of the last row that a way passed. `any` says whether it passed one.
-pub(crate) fn hook(table: &mut [u32], any: bool, i: usize, side: u32, link: u32)
-    requires row { any ≡ true → i < capacity table.old }
-    requires side { side < 2 }
-    ensures { table.new ≡ hooked any i (side_of side) link table.old }
+// Sets the link to a row, if it is linked anywhere.
+pub(crate) fn hook(table: &mut [u32], at: Option<Hook>, link: u32)
+    requires { HookInTable (capacity table.old) at }
+    ensures { table.new ≡ hooked at link table.old }
 {
-    if any {
-        put_link(table, i, side, link);
+    if let Some(at) = at {
+        put_link(table, at.above, at.side, link);
     }
 }
 
+#[tactic(auto, unfolding(crate::specs::Table::capacity, crate::specs::Table::with_row))]
 pub(crate) fn put_row(table: &mut [u32], i: usize, row: Row)
     requires { i < capacity table.old }
     ensures { table.new ≡ with_row i row table.old }
 {
     let at = Header::ROW * i;
-    table[at] = row.entry.key;
-    table[at + 1] = row.left;
-    table[at + 2] = row.right;
-    table[at + 3] = row.entry.serial;
+    let words = [row.entry.key, row.left, row.right, row.entry.serial];
+    table[at..at + Header::ROW].copy_from_slice(&words);
 }

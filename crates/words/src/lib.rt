@@ -1,5 +1,6 @@
 // The calls of `pretree` for a program in C, as tests/speed calls them: plain numbers and a table of 32-bit words go in, and the reply comes
-// back as seven numbers. Each function is its call and adds nothing, so a caller may give any numbers: a refusal is an answer.
+// back as seven numbers. Each function is its call and adds nothing, so a caller may give any numbers: a refusal is an answer. C needs a symbol for
+// each call, so the eleven stand one by one.
 // A slice is a pointer and a number of words, in C's order of arguments; `reply` is a pointer to seven words.
 #![tactic(auto)]
 
@@ -8,42 +9,25 @@ ghost use Rattle.pretree.specs.Find.{has_reply, next_reply, prev_reply, first_re
 ghost use Rattle.pretree.specs.Add.{entry_for, add_outcome};
 ghost use Rattle.pretree.specs.Del.{del_outcome};
 ghost use Rattle.pretree.specs.Whole.{new_reply, new_table, audit_reply, list_reply, list_buffer};
-ghost use Rattle.words.specs.Packed.{header_of, seven_of, packed};
+ghost use Rattle.words.specs.Packed.{header_of, packed};
 
-use pretree::{Answer, Header, Reply};
+use pretree::{Header, Reply};
 
-fn seven_of(reply: Reply, number: u32, key: u32, serial: u32) -> [u32; 7]
-    ensures { result ≡ seven_of reply number key serial }
-{
-    [
-        number,
-        key,
-        reply.rows,
-        reply.moved,
-        serial,
-        reply.header.width,
-        reply.header.count,
-    ]
-}
-
+// It is no `From`, since both types are of other crates.
+#[tactic(auto, unfolding(crate::specs::Packed::packed))]
 fn packed(reply: Reply) -> [u32; 7]
     ensures { result ≡ packed reply }
 {
     let answer = reply.answer;
-    match answer {
-        Answer::Done => seven_of(reply, 0, 0, 0),
-        Answer::Serial(s) => seven_of(reply, 0, 0, s),
-        Answer::Word(k) => seven_of(reply, 0, k, 0),
-        Answer::Distance(d) => seven_of(reply, 0, d, 0),
-        Answer::WrongWidth => seven_of(reply, 1, 0, 0),
-        Answer::WrongHeader => seven_of(reply, 2, 0, 0),
-        Answer::WordTooWide => seven_of(reply, 3, 0, 0),
-        Answer::Damage => seven_of(reply, 4, 0, 0),
-        Answer::Full => seven_of(reply, 5, 0, 0),
-        Answer::ShortBuffer => seven_of(reply, 6, 0, 0),
-        Answer::AlreadyThere => seven_of(reply, 7, 0, 0),
-        Answer::NoSuchWord => seven_of(reply, 8, 0, 0),
-    }
+    [
+        answer.number(),
+        answer.key().unwrap_or(0),
+        reply.rows,
+        reply.moved,
+        answer.serial().unwrap_or(0),
+        reply.header.width,
+        reply.header.count,
+    ]
 }
 
 #[unsafe(no_mangle)]
