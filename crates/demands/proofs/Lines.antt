@@ -7,7 +7,7 @@ use mathlib.Core.List.{List, [], ◌∷◌, ◌++◌}
 use lib.Dec.{ltb, eqb}
 use lib.ListN.{length, take, drop}
 use lib.Seq.{take_at}
-use Rattle.std.specs.Prelude.{if◌then◌else◌}
+use Rattle.std.specs.Prelude.{if◌then◌else◌, Option, None, Some}
 use Rattle.ordered.specs.Dictionary.{words}
 use Rattle.ordered.proofs.OneTree.{words_length}
 use Rattle.pretree.specs.declared.Header.{Header}
@@ -23,12 +23,9 @@ use Rattle.pretree.specs.Del.{del_outcome}
 use Rattle.pretree.specs.Whole.{new_reply, new_table, audit_reply, list_reply, list_buffer}
 use Rattle.pretree.specs.Call.{After, after}
 use Rattle.pretree.proofs.Writing.{same_capacity}
-use Rattle.numbers.specs.declared.Number.{Number}
-use Rattle.lines.specs.declared.Line.{Line}
-use Rattle.lines.specs.declared.Line.TheVariants.{Read, Unread}
 use Rattle.lines.specs.declared.ReplyFields.{ReplyFields}
 use Rattle.lines.specs.Line.{parse}
-use Rattle.lines.specs.Render.{as_number, fields_of, reply_line, key_lines}
+use Rattle.lines.specs.Render.{fields_of, reply_line, key_lines}
 use Rattle.lines.specs.Output.{State, start, listed_in, listed_by, answer, written, written_for, lines_of, output}
 use Rattle.demands.specs.Program.{State as Between}
 use Rattle.demands.specs.Expected.{Kept, only, expected, kept_after, changed}
@@ -52,7 +49,7 @@ record Serving (s : State) (k : Kept) : Type 0 where
   standing : Standing s k
 
 -- a line is answered as the dictionary does
-record Dictated (line : Line) (s : State) (k : Kept) : Type 0 where
+record Dictated (line : Option Call) (s : State) (k : Kept) : Type 0 where
   says : (answer s line).fields ≡ fields_to line s k
   listing : (answer s line).listed ≡ listed_to line k
   goes_on : Serving (answer s line).state (kept_after_line line k)
@@ -123,16 +120,16 @@ module _ (c : Call) (s : State) (k : Kept) (same_buffer : s.buffer ≡ k.buffer)
   says_on_set : fields_of left.reply ≡ fields_on_set c s k
   says_on_set =
       let refused : Bool = refused_over c k.width k.set 4096 (length k.buffer) in
-      same_fields (ap (λ x. x.number) keeps.answer) (ap (λ x. as_number x.key) keeps.answer) reports.rows_read reports.moving_count
-      (ap (λ x. as_number x.serial) keeps.answer)
+      same_fields (ap (λ x. x.number) keeps.answer) (ap (λ x. x.key) keeps.answer) reports.rows_read reports.moving_count
+      (ap (λ x. x.serial) keeps.answer)
     where
-      same_fields : {a a' rows rows' moved moved' : ℕ} {key key' serial serial' : Number} → a ≡ a' → key ≡ key' → rows ≡ rows' → moved ≡ moved'
+      same_fields : {a a' rows rows' moved moved' : ℕ} {key key' serial serial' : Option ℕ} → a ≡ a' → key ≡ key' → rows ≡ rows' → moved ≡ moved'
           → serial ≡ serial'
           → ◌≡◌ {A = ReplyFields} (record { answer = a; key = key; rows = rows; moved = moved; serial = serial })
           (record { answer = a'; key = key'; rows = rows'; moved = moved'; serial = serial' })
       same_fields e f g h i = rw (e, f, g, h, i)
 
-  on_set : Dictated (Read c) s k
+  on_set : Dictated (Some c) s k
   unfolding answer fields_to listed_to kept_after_line
   on_set =
       record {
@@ -192,7 +189,7 @@ new_or_none Call.List = inr refl
 
 -- where there is no set yet
 module _ (s : State) (k : Kept) (same_buffer : s.buffer ≡ k.buffer) (room : capacity s.table ≡ 4096) (at_start : s.header ≡ fresh 0) (no_width : k.width ≡ 0) where
-  none_found : (c : Call) → finds_no_set (kind_of c) 0 ≡ true → Dictated (Read c) s k
+  none_found : (c : Call) → finds_no_set (kind_of c) 0 ≡ true → Dictated (Some c) s k
   unfolding answer fields_to listed_to kept_after_line number_of key_of serial_of
   none_found c finds =
       let left : after c s.header s.table s.buffer ≡ record { reply = refused (fresh 0) WrongHeader; table = s.table; buffer = s.buffer } =
@@ -207,11 +204,11 @@ module _ (s : State) (k : Kept) (same_buffer : s.buffer ≡ k.buffer) (room : ca
   new_room : (w : ℕ) → capacity (new_table s.table w) ≡ 4096
   new_room w = same_capacity (new_table s.table w) s.table (new_kept s.table w).same_length ∙ room
 
-  makes_one : (w : ℕ) → Dictated (Read (New w)) s k
+  makes_one : (w : ℕ) → Dictated (Some (New w)) s k
   unfolding answer after new_reply new_table fields_to listed_to kept_after_line kept_after changed expected refused_over rows_over moved_over listed_by number_of key_of serial_of
   makes_one w = by_cases (wrong_width w) refl
     where
-      by_cases : (b : Bool) → wrong_width w ≡ b → Dictated (Read (New w)) s k
+      by_cases : (b : Bool) → wrong_width w ≡ b → Dictated (Some (New w)) s k
       by_cases true wrong =
           record {
             says = rw wrong;
@@ -229,22 +226,22 @@ module _ (s : State) (k : Kept) (same_buffer : s.buffer ≡ k.buffer) (room : ca
             });
           }
 
-  without_set : (c : Call) → Dictated (Read c) s k
-  without_set c = elim (new_or_none c) [ inl new ↦ subst (λ c. Dictated (Read c) s k) (sym new.1) (makes_one new.0) | inr finds ↦ none_found c finds ]
+  without_set : (c : Call) → Dictated (Some c) s k
+  without_set c = elim (new_or_none c) [ inl new ↦ subst (λ c. Dictated (Some c) s k) (sym new.1) (makes_one new.0) | inr finds ↦ none_found c finds ]
 
-dictated_line : (line : Line) (s : State) (k : Kept) → Serving s k → Dictated line s k
+dictated_line : (line : Option Call) (s : State) (k : Kept) → Serving s k → Dictated line s k
 unfolding answer fields_to listed_to kept_after_line
-dictated_line Unread s k serving = record { says = refl; listing = refl; goes_on = record { same_buffer = serving.same_buffer; room = serving.room; standing = serving.standing } }
-dictated_line (Read c) s k serving = by_cases serving.standing
+dictated_line None s k serving = record { says = refl; listing = refl; goes_on = record { same_buffer = serving.same_buffer; room = serving.room; standing = serving.standing } }
+dictated_line (Some c) s k serving = by_cases serving.standing
   where
-    by_cases : Standing s k → Dictated (Read c) s k
+    by_cases : Standing s k → Dictated (Some c) s k
     by_cases (inl none_yet) = without_set s k serving.same_buffer serving.room none_yet.0 none_yet.1 c
     by_cases (inr held) = on_set c s k serving.same_buffer serving.room held
 
-counted : (s : State) (line : Line) → (answer s line).state.lines ≡ suc s.lines
+counted : (s : State) (line : Option Call) → (answer s line).state.lines ≡ suc s.lines
 unfolding answer
-counted s Unread = refl
-counted s (Read c) = refl
+counted s None = refl
+counted s (Some c) = refl
 
 lines_dictated : (lines : List (List ℕ)) (s : State) (k : Kept) → Serving s k → written_for s lines ≡ dictated s k lines
 unfolding written_for dictated written

@@ -1,15 +1,12 @@
 -- The line program writes, line by line, what the dictionary answers. So demands 2 and 3 hold for the program from its start.
 -- Document 01: "Table of 4,096 rows, all zeros, and a `list` buffer of 4,096 words. Header at the start: W 0, count 0."
-use Rattle.std.specs.Prelude.{ℕ, suc, ◌≡◌, Bool, false, List, [], ◌∷◌, ◌++◌, eqb, length, replicate, if◌then◌else◌}
+use Rattle.std.specs.Prelude.{ℕ, suc, ◌≡◌, Bool, false, List, [], ◌∷◌, ◌++◌, eqb, length, replicate, if◌then◌else◌, Option, None, Some}
 use Rattle.ordered.specs.Dictionary.{Entry, words}
 use Rattle.pretree.specs.declared.Call.{Call}
 use Rattle.pretree.specs.declared.Call.TheVariants.{New, Add, Del, Has, Next, Prev, Gap, First, Last, Audit}
-use Rattle.numbers.specs.declared.Number.TheVariants.{Nothing}
-use Rattle.lines.specs.declared.Line.{Line}
-use Rattle.lines.specs.declared.Line.TheVariants.{Read, Unread}
 use Rattle.lines.specs.declared.ReplyFields.{ReplyFields}
 use Rattle.lines.specs.Line.{parse}
-use Rattle.lines.specs.Render.{as_number, not_read, reply_line, key_lines}
+use Rattle.lines.specs.Render.{not_read, reply_line, key_lines}
 use Rattle.lines.specs.Output.{State, start, answer, lines_of, output}
 use Rattle.demands.specs.Expected.{Kept, expected, kept_after}
 use Rattle.demands.specs.RowsRead.{rows_over, moved_over, refused_over}
@@ -43,7 +40,7 @@ finds_no_set works width = eqb width 0
 
 -- "header W 0": a reply with the number 2
 abbrev pub no_set : ReplyFields
-no_set = record { answer = 2; key = Nothing; rows = 0; moved = 0; serial = Nothing }
+no_set = record { answer = 2; key = None; rows = 0; moved = 0; serial = None }
 
 -- the reply line for a call on a set: the dictionary's number, key and serial; the rows of the ways over the PreTree of the set; and the
 -- moving count, which depends on the table
@@ -52,10 +49,10 @@ fields_on_set c s k =
     let refused : Bool = refused_over c k.width k.set 4096 (length k.buffer) in
     record {
       answer = (expected c 4096 k).number;
-      key = as_number (expected c 4096 k).key;
+      key = (expected c 4096 k).key;
       rows = if refused then 0 else rows_over c k.width k.set;
       moved = if refused then 0 else moved_over c s.header s.table k.set;
-      serial = as_number (expected c 4096 k).serial;
+      serial = (expected c 4096 k).serial;
     }
 
 -- "After a `list` with answer 0 come lines `key`, tab, word."
@@ -64,17 +61,17 @@ listed_on_set makes number set = []
 listed_on_set works number set = []
 listed_on_set lists number set = if eqb number 0 then words set else []
 
-unfoldable pub fields_to : Line → State → Kept → ReplyFields
-fields_to Unread s k = not_read
-fields_to (Read c) s k = if finds_no_set (kind_of c) k.width then no_set else fields_on_set c s k
+unfoldable pub fields_to : Option Call → State → Kept → ReplyFields
+fields_to None s k = not_read
+fields_to (Some c) s k = if finds_no_set (kind_of c) k.width then no_set else fields_on_set c s k
 
-unfoldable pub listed_to : Line → Kept → List ℕ
-listed_to Unread k = []
-listed_to (Read c) k = if finds_no_set (kind_of c) k.width then [] else listed_on_set (kind_of c) (expected c 4096 k).number k.set
+unfoldable pub listed_to : Option Call → Kept → List ℕ
+listed_to None k = []
+listed_to (Some c) k = if finds_no_set (kind_of c) k.width then [] else listed_on_set (kind_of c) (expected c 4096 k).number k.set
 
-unfoldable pub kept_after_line : Line → Kept → Kept
-kept_after_line Unread k = k
-kept_after_line (Read c) k = if finds_no_set (kind_of c) k.width then k else kept_after c 4096 k
+unfoldable pub kept_after_line : Option Call → Kept → Kept
+kept_after_line None k = k
+kept_after_line (Some c) k = if finds_no_set (kind_of c) k.width then k else kept_after c 4096 k
 
 -- The output that the dictionary's answers give for a list of lines. It uses only the line number of the program's state, and the header and
 -- table for the moving count of a `del`.

@@ -1,16 +1,18 @@
 -- The digits of a number, one by one, and how many there are.
-use Prim.Native.Nat.{ℕ, zero, suc, ◌*◌, ◌/◌, ◌%◌, ◌^◌, ◌≤◌, ◌<◌}
+use Prim.Native.Nat.{ℕ, zero, suc, ◌/◌, ◌%◌, ◌^◌, ◌≤◌, ◌<◌}
 use mathlib.Core.Path.{◌≡◌, sym, ◌∙◌}
 use mathlib.Core.Bool.{true, false}
 use mathlib.Core.List.{[], ◌∷◌, ◌++◌}
 use mathlib.Core.Logic.{⊎_elim}
-use native.Mathlib.Nat.{pow-suc}
 use native.Mathlib.Omega.{arith}
 use borrow.Author.Tests.{lt-ltb, le-ltb, ltb-true, ltb-false}
 use lib.Dec.{ltb}
 use lib.ListN.{length, length-append}
-use Rattle.lines.specs.Render.{digit, digits_within, digits, field}
-use Rattle.lines.proofs.Tests.{either}
+use native.Mathlib.Numerals.{add-one}
+use Rattle.std.specs.Fmt.{decimal}
+use Rattle.std.proofs.lemmas.Fmt.{decimal_from_appends, length-decimal-le, length-decimal-le_succ}
+use Rattle.lines.specs.Render.{digit, digits_within, digits}
+use Rattle.std.proofs.lemmas.Bool.{cases_Bool}
 
 -- the last digit, and the digits before it
 last_within : (k n : ℕ) → n < 10 → digits_within (suc k) n ≡ digit n ∷ []
@@ -31,7 +33,7 @@ enough (suc k) (suc j) n h l =
     (λ (f : ltb n 10 ≡ false).
     let m : 10 ≤ n = ltb-false n 10 f in
     more_within k n m ∙ rw (enough k j (n / 10) (omega arith) (omega arith)) (sym (more_within j n m)))
-    (either (ltb n 10))
+    (cases_Bool (ltb n 10))
 
 pub last_digit : (n : ℕ) → n < 10 → digits n ≡ digit n ∷ []
 unfolding digits
@@ -51,7 +53,7 @@ by_digits P last more n = go (suc n) n (omega arith)
         ⊎_elim
         (λ (t : ltb n 10 ≡ true). last n (ltb-true n 10 t))
         (λ (f : ltb n 10 ≡ false). more n (ltb-false n 10 f) (go k (n / 10) (omega (arith, ltb-false n 10 f))))
-        (either (ltb n 10))
+        (cases_Bool (ltb n 10))
 
 pub last_places : (n : ℕ) → n < 10 → length (digits n) ≡ 1
 last_places n h = rw (last_digit n h)
@@ -62,17 +64,15 @@ more_places n h = rw (more_digits n h) (omega (arith, length-append (digits (n /
 pub some_places : (n : ℕ) → 1 ≤ length (digits n)
 some_places = by_digits (λ n. 1 ≤ length (digits n)) (λ n h. omega (arith, last_places n h)) (λ n h l. omega (arith, more_places n h))
 
--- a number below 10 ^ k has at most k digits
-pub few_places : (k n : ℕ) → n < 10 ^ suc k → length (digits n) ≤ suc k
-few_places zero n h = omega (arith, last_places n h)
-few_places (suc k) n h =
-    ⊎_elim
-    (λ (t : ltb n 10 ≡ true). omega (arith, last_places n (ltb-true n 10 t)))
-    (λ (f : ltb n 10 ≡ false).
-    let m : 10 ≤ n = ltb-false n 10 f in
-    let p : 10 ^ suc (suc k) ≡ 10 ^ suc k * 10 = pow-suc 10 (suc k) in
-    omega (arith, more_places n m, few_places k (n / 10) (omega arith)))
-    (either (ltb n 10))
+-- they are what the library writes
+pub digits_are : (n : ℕ) → n < 2 ^ 64 → digits n ≡ decimal n
+unfolding digits
+digits_are n h =
+    decimal_from_appends digits_within (record { one = last_within; more = more_within }) (suc n) n h (rw add-one at (length-decimal-le_succ n h))
 
-pub field_places : (n : ℕ) → n < 2 ^ 32 → length (field n) ≤ 11
-field_places n h = omega (arith, few_places 9 n (omega arith))
+-- a word has at most 10 digits, and the number of a line at most 20
+pub word_places : (n : ℕ) → n < 2 ^ 32 → length (digits n) ≤ 10
+word_places n h = rw (digits_are n (omega arith)) (length-decimal-le 10 n (omega arith) (omega arith) (omega arith))
+
+pub line_places : (n : ℕ) → n < 2 ^ 64 → length (digits n) ≤ 20
+line_places n h = rw (digits_are n h) (length-decimal-le 20 n (omega arith) (omega arith) h)

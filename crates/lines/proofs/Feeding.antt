@@ -1,28 +1,23 @@
 -- A session takes its input part by part.
-use Prim.Native.Nat.{ℕ, suc, ◌+◌, ◌*◌, ◌-◌, ◌^◌, ◌≤◌, ◌<◌}
+use Prim.Native.Nat.{ℕ, suc, ◌+◌, ◌≤◌, ◌<◌}
 use mathlib.Core.Path.{◌≡◌, refl, sym, ap, ◌∙◌}
 use mathlib.Core.Bool.{true, false}
 use mathlib.Core.List.{List, [], ◌∷◌, ◌++◌, append_assoc, append-nil}
 use mathlib.Core.Logic.{⊎_elim}
-use native.Mathlib.Nat.{add-zero}
 use native.Mathlib.Omega.{arith}
 use lib.Dec.{eqb}
-use lib.ListN.{length, take, drop}
-use lib.Seq.{take-add, drop-drop}
+use lib.ListN.{length, take, drop, length-take, length-append, take-append-drop}
 use Rattle.lines.specs.Line.{parse}
+use Rattle.std.specs.Prelude.{Option, None, Some}
+use Rattle.pretree.specs.declared.Call.{Call}
 use Rattle.lines.specs.Output.{State, Session, answer, written_for, state_after, ended, unended, session_after, written_for_piece}
 use Rattle.lines.specs.Gather.{until_end, HoldsLine}
-use Rattle.lines.specs.declared.session.Progress.{Progress}
-use Rattle.lines.specs.Answering.{session_of, Answers, Feeds, FeedsFromHeld, Advances}
-use Rattle.lines.proofs.Tests.{either}
+use Rattle.lines.specs.declared.session.Session.{Session as CodeSession}
+use Rattle.lines.specs.Answering.{state_of, Answers, Keeps, Feeds, FeedsFromHeld, Advances}
+use Rattle.std.proofs.lemmas.Bool.{cases_Bool}
 use Rattle.lines.proofs.Finding.{until_first, until_later}
-use Rattle.lines.proofs.Puts.{put_then}
 use Rattle.lines.proofs.Pieces.{ended_here, ended_later, unended_here, unended_later, session_append, written_piece_append}
-use Rattle.lines.proofs.Gathering.{no_line_ends, held_none, parse_held}
-
--- a line reads the same from what is held of it
-pub parse_gathered : {buffer : List ℕ} {count : ℕ} {line : List ℕ} → HoldsLine buffer count line → parse (take count buffer) ≡ parse line
-parse_gathered {line} h = ap parse h.content ∙ parse_held line
+use Rattle.lines.proofs.Gathering.{no_line_ends, held_more}
 
 -- an input up to the end of its first line
 one_line :
@@ -39,114 +34,106 @@ one_line line (b ∷ input) h =
       rw (until_later 10 b input f) (ended_later line b (take (suc (until_end input)) input) f ∙ r.0 ∙ rw append_assoc),
       rw (until_later 10 b input f) (unended_later line b (take (suc (until_end input)) input) f ∙ r.1),
     ))
-    (either (eqb b 10))
+    (cases_Bool (eqb b 10))
 
--- an empty input changes nothing
-pub feeds_nothing : (s : Session) {buffer : List ℕ} {count : ℕ} (out : List ℕ) → HoldsLine buffer count s.line → Feeds s [] s.state buffer count out 0 out 0
-unfolding session_after written_for_piece state_after written_for ended unended
-feeds_nothing s out h = record { state = refl; held = h; put = record { content = refl; place = refl } }
+module _ {s : Session} {k : CodeSession} (keeps : Keeps s k) where
+  -- an empty input changes nothing
+  pub feeds_nothing : {after : CodeSession} → state_of after ≡ state_of k → after.held ≡ k.held → after.out.items ≡ [] → Feeds s [] [] after
+  unfolding session_after written_for_piece state_after written_for ended unended
+  feeds_nothing e h o = record { keeps = record { state = e ∙ keeps.state; held = rw h keeps.held }; put = o }
 
-module _ (s : Session) (input : List ℕ) where
   -- a part in which no line ends is held
   pub feeds_part :
-      {buffer out : List ℕ} {count at : ℕ} → length input ≤ until_end input → HoldsLine buffer count (s.line ++ input)
-      → Feeds s input s.state buffer count out at out at
+      (input : List ℕ) {after : CodeSession} → length input ≤ until_end input → state_of after ≡ state_of k → after.out ≡ k.out
+      → HoldsLine after.held.items (s.line ++ input)
+      → Feeds s input k.out.items after
   unfolding session_after written_for_piece state_after written_for
-  feeds_part none h =
+  feeds_part input none e o h =
       let r = no_line_ends s.line input none in
-      record { state = rw r.0; held = rw r.1 h; put = rw r.0 (record { content = refl; place = sym (add-zero _) }) }
+      record { keeps = record { state = rw r.0 (e ∙ keeps.state); held = rw r.1 h }; put = rw (r.0, append-nil) (ap (λ out. out.items) o) }
 
   -- a line that ends is answered
   pub feeds_line :
-      (buffer : List ℕ) {out left : List ℕ} {at next : ℕ} {after : State} → until_end input < length input
-      → Answers (answer s.state (parse (s.line ++ take (until_end input) input))) after out at left next
-      → Feeds s (take (suc (until_end input)) input) after buffer 0 out at left next
+      (input line : List ℕ) {end : ℕ} {middle after : CodeSession} → end ≡ until_end input → end < length input
+      → state_of middle ≡ state_of k → middle.out ≡ k.out → middle.held.items ≡ [] → parse line ≡ parse (s.line ++ take end input)
+      → Answers (answer (state_of middle) (parse line)) middle after
+      → Feeds s (take (end + 1) input) k.out.items after
   unfolding session_after written_for_piece state_after written_for
-  feeds_line buffer some a =
-      let r = one_line s.line input some in
+  feeds_line input line {end} found some e o n p a =
+      let r = one_line s.line input (omega arith) in
+      let past : end + 1 ≡ suc (until_end input) = omega arith in
+      let q : parse line ≡ parse (s.line ++ take (until_end input) input) = rw found at p in
       record {
-        state = rw r.0 a.state;
-        held = rw r.1 (held_none buffer);
-        put = rw (r.0, append-nil) a.put;
+        keeps = record { state = rw (past, r.0) (a.state ∙ rw (e, keeps.state, q)); held = rw (past, r.1, a.held) n };
+        put = rw (past, r.0, append-nil) (a.put ∙ rw (o, e, keeps.state, q));
       }
 
-  -- a second input after the first
-  pub feeds_then :
-      (more : List ℕ) {after last : State} {buffer hold out left end : List ℕ} {count held at next to : ℕ} → Feeds s input after buffer count out at left next
-      → Feeds (record { state = after; line = (session_after s input).line }) more last hold held left next end to
-      → Feeds s (input ++ more) last hold held out at end to
-  feeds_then more {after} f g =
-      let e : session_after s input ≡ record { state = after; line = (session_after s input).line } = rw f.state in
-      record {
-        state = rw (session_append s input more, e) g.state;
-        held = rw (session_append s input more, e) g.held;
-        put = rw (written_piece_append s input more, e) (put_then f.put g.put);
-      }
+-- each line is counted
+one_more_line : (s : State) (read : Option Call) → (answer s read).state.lines ≡ suc s.lines
+unfolding answer
+one_more_line s (Some call) = refl
+one_more_line s None = refl
 
--- two stretches of a piece, one after the other
-pub stretches :
-    (piece : List ℕ) (from middle to : ℕ) → from ≤ middle → middle ≤ to
-    → take (middle - from) (drop from piece) ++ take (to - middle) (drop middle piece) ≡ take (to - from) (drop from piece)
-stretches piece from middle to h l =
-    let m : to - from ≡ (middle - from) + (to - middle) = omega arith in
-    let d : from + (middle - from) ≡ middle = omega arith in
-    rw (m, take-add (middle - from) (to - middle) (drop from piece), drop-drop (middle - from) from piece, d)
+counted :
+    (k : CodeSession) (line : List ℕ) {middle after : CodeSession} → state_of middle ≡ state_of k → Answers (answer (state_of middle) (parse line)) middle after
+    → after.lines ≡ suc k.lines
+counted k line {middle = middle} e a =
+    ap (λ (s : State). s.lines) a.state ∙ one_more_line (state_of middle) (parse line) ∙ ap (λ (s : State). suc s.lines) e
 
--- the invariant of the loop of `feed`: what it began with, and what it has
-pub record FeedLoop
-    (piece : List ℕ) (from : ℕ) (table₀ words₀ buffer₀ out₀ : List ℕ) (most : ℕ) (progress₀ : Progress) (table words buffer out : List ℕ) (progress : Progress)
-    : Type 0 where
-  pub feeds : FeedsFromHeld progress₀.session table₀ words₀ buffer₀ out₀ 0 (take (progress.from - from) (drop from piece)) progress table words buffer out
-  pub onward : from ≤ progress.from
-  pub first : progress.from ≡ from → progress.next ≡ 0
-  pub within : progress.from ≤ length piece
-  pub fits : progress.next ≤ length out
-  pub held : progress.session.held ≤ 65
-  pub lines : progress.session.lines + from ≤ progress₀.session.lines + progress.from
-  pub few : progress₀.session.lines + length piece < 2 ^ 64 + from
-  pub room : most ≡ 76 + 15 * length words
-  pub enough : most ≤ length out
-  pub table_size : length table ≡ length table₀
-  pub words_size : length words ≡ length words₀
-  pub buffer_size : length buffer ≡ length buffer₀
-  pub holds : length buffer ≡ 65
-  pub out_size : length out ≡ length out₀
+-- one step
+pub part_advances :
+    (piece : List ℕ) {before after : CodeSession} → 0 < length piece → length piece ≤ until_end piece → state_of after ≡ state_of before
+    → after.out ≡ before.out → after.held.items ≡ take 65 (before.held.items ++ piece)
+    → Advances piece [] before.out.items before after
+part_advances piece some none e o h =
+    record {
+      part = piece;
+      whole = sym (append-nil piece);
+      onward = some;
+      feeds = λ s keeps. feeds_part keeps piece none e o (rw h (held_more s.line keeps.held piece));
+      lines = omega (arith, ap (λ (s : State). s.lines) e);
+    }
 
-module _ {piece : List ℕ} {from : ℕ} {table₀ words₀ buffer₀ out₀ : List ℕ} {most : ℕ} {progress₀ : Progress} {table words buffer out : List ℕ} {progress : Progress}
-    (g : FeedLoop piece from table₀ words₀ buffer₀ out₀ most progress₀ table words buffer out progress) where
-  -- after one more step
-  pub after_step :
-      {rows list hold left : List ℕ} {r : Progress}
-      → FeedsFromHeld progress.session table words buffer out progress.next (take (r.from - progress.from) (drop progress.from piece)) r rows list hold left
-      → Advances progress.from (length piece) (length left) progress.session r
-      → length rows ≡ length table → length list ≡ length words → length hold ≡ length buffer → length left ≡ length out
-      → FeedLoop piece from table₀ words₀ buffer₀ out₀ most progress₀ rows list hold left r
-  after_step {rows} {list} {hold} {left} {r} f m t w b o =
-      record {
-        feeds =
-            λ line h.
-            let first = g.feeds line h in
-            rw (← stretches piece from progress.from r.from g.onward (omega (arith, m.onward)))
-            (feeds_then (session_of progress₀.session.header table₀ words₀ progress₀.session.lines line) (take (progress.from - from) (drop from piece))
-            (take (r.from - progress.from) (drop progress.from piece))
-            first
-            (f (session_after (session_of progress₀.session.header table₀ words₀ progress₀.session.lines line) (take (progress.from - from) (drop from piece))).line first.held));
-        onward = omega (arith, m.onward, g.onward);
-        first = λ e. absurd (omega (arith, m.onward, g.onward));
-        within = m.within;
-        fits = m.fits;
-        held = m.held;
-        lines = omega (arith, m.lines, g.lines);
-        few = g.few;
-        room = omega (arith, g.room);
-        enough = omega (arith, g.enough);
-        table_size = omega (arith, g.table_size);
-        words_size = omega (arith, g.words_size);
-        buffer_size = omega (arith, g.buffer_size);
-        holds = omega (arith, g.holds);
-        out_size = omega (arith, g.out_size);
-      }
+pub line_advances :
+    (piece line : List ℕ) {end : ℕ} {before middle after : CodeSession} → end ≡ until_end piece → end < length piece
+    → state_of middle ≡ state_of before → middle.out ≡ before.out → middle.held.items ≡ []
+    → ((whole : List ℕ) → HoldsLine before.held.items whole → parse line ≡ parse (whole ++ take end piece))
+    → Answers (answer (state_of middle) (parse line)) middle after
+    → Advances piece (drop (end + 1) piece) before.out.items before after
+line_advances piece line {end} {before = before} found some e o n p a =
+    record {
+      part = take (end + 1) piece;
+      whole = sym (take-append-drop (end + 1) piece);
+      onward = omega (arith, length-take (end + 1) piece);
+      feeds = λ s keeps. feeds_line keeps piece line found some e o n (p s.line keeps.held) a;
+      lines = omega (arith, length-take (end + 1) piece, counted before line e a);
+    }
 
-  -- where the loop ends it has advanced
-  pub loop_advances : (progress.from ≡ from → ⊥) → Advances from (length piece) (length out) progress₀.session progress
-  loop_advances h = record { onward = omega (arith, g.onward); within = g.within; fits = g.fits; held = g.held; lines = g.lines }
+-- a second input after the first
+pub feeds_then :
+    {s : Session} {input out : List ℕ} {middle : CodeSession} (more : List ℕ) {after : CodeSession} → Feeds s input out middle → FeedsFromHeld middle middle.out.items more after
+    → Feeds s (input ++ more) out after
+feeds_then {s} {input} {out} more f g =
+    let h = g (session_after s input) f.keeps in
+    record { keeps = rw session_append h.keeps; put = rw (written_piece_append s input more, ← append_assoc, ← f.put) h.put }
+
+-- the invariant of the loop of `feed`: a part was taken in, and `rest` is left
+pub record FeedLoop (piece rest : List ℕ) (before now : CodeSession) : Type 0 where
+  pub part : List ℕ
+  pub whole : piece ≡ part ++ rest
+  pub first : length part ≡ 0 → now.out.items ≡ []
+  pub feeds : FeedsFromHeld before [] part now
+  pub lines : now.lines ≤ before.lines + length part
+
+-- after one more step
+pub after_step :
+    {piece rest left : List ℕ} {before now after : CodeSession} → FeedLoop piece rest before now → Advances rest left now.out.items now after
+    → FeedLoop piece left before after
+after_step {left = left} l a =
+    record {
+      part = l.part ++ a.part;
+      whole = l.whole ∙ rw (a.whole, append_assoc);
+      first = λ e. absurd (omega (arith, a.onward, length-append l.part a.part, e));
+      feeds = λ s keeps. feeds_then a.part (l.feeds s keeps) a.feeds;
+      lines = omega (arith, a.lines, l.lines, length-append l.part a.part);
+    }

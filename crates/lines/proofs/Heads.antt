@@ -1,23 +1,20 @@
 -- A line of 4 to 64 bytes means what its head and its rest mean; a shorter or a longer one is not read.
-use Prim.Native.Nat.{ℕ, ◌-◌, ◌≤◌, ◌<◌}
-use mathlib.Core.Path.{◌≡◌, refl, sym}
+use Prim.Native.Nat.{ℕ, ◌≤◌, ◌<◌}
+use mathlib.Core.Path.{◌≡◌, refl}
 use mathlib.Core.Bool.{Bool, true, false, ◌&&◌}
 use mathlib.Core.List.{List, [], ◌∷◌, ◌++◌}
 use mathlib.Core.Logic.{⊎_elim}
 use native.Mathlib.Omega.{arith}
 use borrow.Author.Tests.{eq-eqb, ne_eqb, eqb-true, eqb-false, lt-ltb, le-ltb}
 use lib.Dec.{T, ltb, eqb, ltb→lt}
-use lib.ListN.{length, get_or, take, drop, length-drop}
-use lib.Seq.{take_all}
-use Rattle.std.specs.Prelude.{if◌then◌else◌}
-use Rattle.ordered.specs.Such.{Perhaps, no_such, such, first_of}
-use Rattle.pretree.specs.declared.Call.{Call}
-use Rattle.lines.specs.declared.Line.{Line}
-use Rattle.lines.specs.declared.Line.TheVariants.{Unread}
+use lib.ListN.{length, get_or, take, drop}
+use Rattle.std.specs.Prelude.{if◌then◌else◌, Option, None}
+use Rattle.std.specs.Int.{from_be_bytes, w32}
 use Rattle.lines.specs.Text.{bytes}
-use Rattle.lines.specs.Line.{parse, after_word, Form, with_number, with_two_numbers, alone, operations, first_read, if_nothing, line_of}
+use Rattle.lines.specs.Line.{parse, after_word, Form, with_number, with_two_numbers, alone, operations, first_read}
 use Rattle.lines.specs.Head.{packed, head_of, after_head, by_head}
-use Rattle.lines.proofs.Tests.{either, both}
+use Rattle.std.proofs.lemmas.Bool.{cases_Bool}
+use Rattle.lines.proofs.Tests.{both}
 
 -- a word begins with four bytes
 abbrev is_long : List ℕ → Bool
@@ -35,7 +32,7 @@ all_long (alone word call ∷ fs) = is_long (bytes word) && all_long fs
 
 -- two ways to find what comes after a word read the same call if they agree on such words
 pub same_read :
-    (p q : List ℕ → Perhaps (List ℕ)) → ((word : List ℕ) → T (is_long word) → p word ≡ q word) → (fs : List Form) → T (all_long fs)
+    (p q : List ℕ → Option (List ℕ)) → ((word : List ℕ) → T (is_long word) → p word ≡ q word) → (fs : List Form) → T (all_long fs)
     → first_read p fs ≡ first_read q fs
 same_read p q h [] t = refl
 same_read p q h (with_number word call ∷ fs) t =
@@ -49,12 +46,12 @@ same_read p q h (alone word call ∷ fs) t =
     rw (h (bytes word) b.0, same_read p q h fs b.1)
 
 -- a word does not begin a shorter line
-pub too_short : (word line : List ℕ) → length line < length word → after_word word line ≡ no_such
+pub too_short : (word line : List ℕ) → length line < length word → after_word word line ≡ None
 unfolding after_word
 too_short [] line h = absurd (omega arith)
 too_short (b ∷ word) [] h = refl
 too_short (b ∷ word) (c ∷ line) h =
-    ⊎_elim (λ t. simp (t, too_short word line (omega arith))) (λ (f : eqb b c ≡ false). simp f) (either (eqb b c))
+    ⊎_elim (λ t. simp (t, too_short word line (omega arith))) (λ (f : eqb b c ≡ false). simp f) (cases_Bool (eqb b c))
 
 long_word : (word : List ℕ) → T (is_long word) → 4 ≤ length word
 long_word [] t = absurd t
@@ -63,13 +60,13 @@ long_word (a ∷ b ∷ []) t = absurd t
 long_word (a ∷ b ∷ c ∷ []) t = absurd t
 long_word (a ∷ b ∷ c ∷ d ∷ word) t = omega arith
 
-pub short_unread : (line : List ℕ) → length line < 4 → parse line ≡ Unread
+pub short_unread : (line : List ℕ) → length line < 4 → parse line ≡ None
 unfolding parse
 short_unread line h =
-    let none : (word : List ℕ) → T (is_long word) → after_word word line ≡ no_such = λ word t. too_short word line (omega (arith, long_word word t)) in
-    simp (le-ltb 64 (length line) (omega arith), same_read (λ word. after_word word line) (λ word. no_such) none operations tt)
+    let none : (word : List ℕ) → T (is_long word) → after_word word line ≡ None = λ word t. too_short word line (omega (arith, long_word word t)) in
+    simp (le-ltb 64 (length line) (omega arith), same_read (λ word. after_word word line) (λ word. None) none operations tt)
 
-pub long_unread : (line : List ℕ) → 64 < length line → parse line ≡ Unread
+pub long_unread : (line : List ℕ) → 64 < length line → parse line ≡ None
 unfolding parse
 long_unread line h = simp (lt-ltb 64 (length line) h)
 
@@ -84,7 +81,7 @@ module _ (a e : ℕ) {b c d f g h : ℕ} (bs : b < 256) (cs : c < 256) (ds : d <
 
   after_four :
       (word rest : List ℕ)
-      → after_word (a ∷ b ∷ c ∷ d ∷ word) (e ∷ f ∷ g ∷ h ∷ rest) ≡ (if eqb (packed e f g h) (packed a b c d) then after_word word rest else no_such)
+      → after_word (a ∷ b ∷ c ∷ d ∷ word) (e ∷ f ∷ g ∷ h ∷ rest) ≡ (if eqb (packed e f g h) (packed a b c d) then after_word word rest else None)
   unfolding after_word
   after_four word rest =
       ⊎_elim
@@ -92,10 +89,10 @@ module _ (a e : ℕ) {b c d f g h : ℕ} (bs : b < 256) (cs : c < 256) (ds : d <
       let u = unpacked (eqb-true _ _ t) in
       simp (t, eq-eqb a e u.0, eq-eqb b f u.1, eq-eqb c g u.2, eq-eqb d h u.3))
       (λ (t : eqb (packed e f g h) (packed a b c d) ≡ false). rw t (differing t))
-      (either (eqb (packed e f g h) (packed a b c d)))
+      (cases_Bool (eqb (packed e f g h) (packed a b c d)))
     where
       differing :
-          eqb (packed e f g h) (packed a b c d) ≡ false → after_word (a ∷ b ∷ c ∷ d ∷ word) (e ∷ f ∷ g ∷ h ∷ rest) ≡ no_such
+          eqb (packed e f g h) (packed a b c d) ≡ false → after_word (a ∷ b ∷ c ∷ d ∷ word) (e ∷ f ∷ g ∷ h ∷ rest) ≡ None
       differing t =
           ⊎_elim
           (λ (q : eqb a e ≡ true).
@@ -106,11 +103,11 @@ module _ (a e : ℕ) {b c d f g h : ℕ} (bs : b < 256) (cs : c < 256) (ds : d <
           let v : eqb d h ≡ false = ne_eqb d h (λ w. eqb-false (packed e f g h) (packed a b c d) t (cc (eqb-true a e q, eqb-true b f r, eqb-true c g u))) in
           simp (q, r, u, v))
           (λ (u : eqb c g ≡ false). simp (q, r, u))
-          (either (eqb c g)))
+          (cases_Bool (eqb c g)))
           (λ (r : eqb b f ≡ false). simp (q, r))
-          (either (eqb b f)))
+          (cases_Bool (eqb b f)))
           (λ (q : eqb a e ≡ false). simp q)
-          (either (eqb a e))
+          (cases_Bool (eqb a e))
 
 -- a line of 4 to 64 bytes is read by its head and its rest
 pub by_head_is :
@@ -134,36 +131,10 @@ by_head_is (e ∷ f ∷ g ∷ h ∷ rest) l m small =
         let r = both (ltb c 256) (ltb d 256) q.1 in
         after_four a e (ltb→lt b 256 q.0) (ltb→lt c 256 r.0) (ltb→lt d 256 r.1) (small 1) (small 2) (small 3) word rest
 
--- if no other form fits
-pub only : {line : Line} (p : Perhaps Call) → line ≡ line_of p → line ≡ line_of (first_of p no_such)
-only no_such h = h
-only (such call) h = h
-
--- one more byte after the head
-module _ (b : ℕ) where
-  pub after_none : (rest : List ℕ) → length rest ≡ 0 → after_word (b ∷ []) rest ≡ no_such
-  unfolding after_word
-  after_none [] h = refl
-  after_none (x ∷ rest) h = absurd (omega arith)
-
-  pub after_other : (rest : List ℕ) → (length rest ≡ 0 → ⊥) → (get_or rest 0 0 ≡ b → ⊥) → after_word (b ∷ []) rest ≡ no_such
-  unfolding after_word
-  after_other [] h d = refl
-  after_other (x ∷ rest) h d = simp (ne_eqb b x (λ e. d (sym e)))
-
-  pub after_one : (rest : List ℕ) → (length rest ≡ 0 → ⊥) → get_or rest 0 0 ≡ b → after_word (b ∷ []) rest ≡ such (drop 1 rest)
-  unfolding after_word
-  after_one [] h e = absurd (h refl)
-  after_one (x ∷ rest) h e = simp (eq-eqb b x (sym e))
-
-pub nothing_behind : (call : Call) (rest : List ℕ) → length rest ≡ 0 → if_nothing call rest ≡ such call
-nothing_behind call [] h = refl
-nothing_behind call (x ∷ rest) h = absurd (omega arith)
-
-pub more_behind : (call : Call) (rest : List ℕ) → (length rest ≡ 0 → ⊥) → if_nothing call rest ≡ no_such
-more_behind call [] h = absurd (h refl)
-more_behind call (x ∷ rest) h = refl
-
--- a part that goes to the end of a slice
-pub rest_of : (l : List ℕ) (i : ℕ) → take (length l - i) (drop i l) ≡ drop i l
-rest_of l i = take_all (length l - i) (drop i l) (omega (arith, length-drop i l))
+-- four bytes are packed as `u32::from_be_bytes` does it
+pub packed_head : (line : List ℕ) → 4 ≤ length line → from_be_bytes w32 (take 4 line) ≡ head_of line
+packed_head [] l = absurd (omega arith)
+packed_head (a ∷ []) l = absurd (omega arith)
+packed_head (a ∷ b ∷ []) l = absurd (omega arith)
+packed_head (a ∷ b ∷ c ∷ []) l = absurd (omega arith)
+packed_head (a ∷ b ∷ c ∷ d ∷ rest) l = omega arith

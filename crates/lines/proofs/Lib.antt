@@ -8,22 +8,17 @@ pub mod Examples
 -- reading a line: `parse`, `by_head` and the functions that it calls; `add`, and `answers_nine`
 pub mod Heads
 pub mod TwoNumbers
--- answering a line: laws on calls that only read and on answers without a key or serial; `reply_to` and `answer`
-pub mod ReadOnly
-pub mod Keys
+-- answering a line: `answer`
 pub mod Running
--- writing a reply: all of src/put.rt; `places`, and `reads_back`; `put_number`; `put_keys`
-pub mod Puts
+-- writing a reply: `number`, `put_reply`, and `reads_back`; `put_keys`
 pub mod Digits
-pub mod Spelling
 pub mod KeyLines
--- taking in a piece: `hold`; `step`; `feed`
+-- taking in a piece: `step` and `feed`
 pub mod Gathering
-pub mod Stepping
 pub mod Feeding
--- the loops over standard input: `serve`, `answer_piece`, `put_piece`, `turns_left`
+-- the loops over standard input: `serve`, `take_in`, `put_piece`
 pub mod Serving
--- finding a byte: `place_of`, for `add` and `step`
+-- the place of a byte: for `add` and `step`
 pub mod Finding
--- for all of these
+-- for `parse` and `answers_nine`
 pub mod Tests

@@ -8,7 +8,7 @@ use lib.Dec.{eqb}
 use Rattle.lines.specs.Line.{parse}
 use Rattle.lines.specs.Output.{State, answer, written_for, state_after, ended, unended, lines_of, output}
 use Rattle.lines.specs.Output.{Session, start_session, session_after, written_for_piece, written_at_end, output_in_pieces, joined}
-use Rattle.lines.proofs.Tests.{either}
+use Rattle.std.proofs.lemmas.Bool.{cases_Bool}
 
 -- byte 10 ends a line, and any other byte continues it
 module _ (line : List ℕ) (b : ℕ) (input : List ℕ) where
@@ -36,7 +36,7 @@ ended_append line (b ∷ xs) ys =
     ⊎_elim
     (λ t. cc (ended_here line b xs t, unended_here line b xs t, ended_append [] xs ys))
     (λ f. cc (ended_later line b xs f, unended_later line b xs f, ended_append (line ++ b ∷ []) xs ys))
-    (either (eqb b 10))
+    (cases_Bool (eqb b 10))
 
 pub unended_append : (line xs ys : List ℕ) → unended line (xs ++ ys) ≡ unended (unended line xs) ys
 unfolding unended
@@ -45,7 +45,7 @@ unended_append line (b ∷ xs) ys =
     ⊎_elim
     (λ t. cc (unended_here line b xs t, unended_append [] xs ys))
     (λ f. cc (unended_later line b xs f, unended_append (line ++ b ∷ []) xs ys))
-    (either (eqb b 10))
+    (cases_Bool (eqb b 10))
 
 -- lines answered one after the other
 pub state_append : (s : State) (ls ms : List (List ℕ)) → state_after s (ls ++ ms) ≡ state_after (state_after s ls) ms

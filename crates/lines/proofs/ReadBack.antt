@@ -8,12 +8,12 @@ use native.Mathlib.Omega.{arith}
 use borrow.Author.Tests.{ne_eqb, ltb-true, ltb-false}
 use lib.Dec.{ltb}
 use lib.ListN.{get_or, get_or-append}
-use Rattle.numbers.specs.declared.Number.TheVariants.{Of}
+use Rattle.std.specs.Prelude.{Some}
 use Rattle.numbers.specs.Decimal.{is_digit, are_digits, spelt, leads_with_zero, read_number}
 use Rattle.numbers.proofs.Laws.{digit_is, one_digit, digits_more, number_is}
 use Rattle.lines.specs.Render.{digit, digits}
-use Rattle.lines.proofs.Tests.{either}
-use Rattle.lines.proofs.Digits.{last_digit, more_digits, by_digits, last_places, more_places, some_places, few_places}
+use Rattle.std.proofs.lemmas.Bool.{cases_Bool}
+use Rattle.lines.proofs.Digits.{last_digit, more_digits, by_digits, last_places, more_places, some_places, word_places}
 
 spelt_last : (v : ℕ) (ds : List ℕ) (d : ℕ) → spelt v (ds ++ d ∷ []) ≡ spelt v ds * 10 + (d - 48)
 unfolding spelt
@@ -27,7 +27,7 @@ digits_last (e ∷ ds) d a h =
     ⊎_elim
     (λ (t : is_digit e ≡ true). rw t (digits_last ds d (rw t at a) h))
     (λ (f : is_digit e ≡ false). rw f (rw f at a))
-    (either (is_digit e))
+    (cases_Bool (is_digit e))
 
 pub all_spelt : (n : ℕ) → spelt 0 (digits n) ≡ n
 unfolding spelt
@@ -57,9 +57,9 @@ no_leading_zero n =
     let m : 10 ≤ n = ltb-false n 10 f in
     digits_more (digits n) (omega (arith, more_places n m, some_places (n / 10)))
     ∙ ne_eqb (get_or (digits n) 0 0) 48 (λ e. omega (arith, first_digit n (omega arith))))
-    (either (ltb n 10))
+    (cases_Bool (ltb n 10))
 
-pub reads_back : (n : ℕ) → n ≤ 4294967295 → read_number (digits n) ≡ Of n
+pub reads_back : (n : ℕ) → n ≤ 4294967295 → read_number (digits n) ≡ Some n
 reads_back n h =
-    let r = number_is (digits n) (some_places n) (few_places 9 n (omega arith)) (no_leading_zero n) (all_digits n) (rw (all_spelt n) h) in
+    let r = number_is (digits n) (some_places n) (word_places n (omega arith)) (no_leading_zero n) (all_digits n) (rw (all_spelt n) h) in
     rw (all_spelt n) at r

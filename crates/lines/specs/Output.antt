@@ -1,6 +1,6 @@
 -- The whole output for a whole input, as one function from the bytes read to the bytes written; and the output for an input that comes in
 -- pieces. Document 01, "The line program".
-use Rattle.std.specs.Prelude.{ℕ, suc, ◌*◌, List, [], ◌∷◌, ◌++◌, eqb, take, replicate, if◌then◌else◌}
+use Rattle.std.specs.Prelude.{ℕ, suc, ◌*◌, List, [], ◌∷◌, ◌++◌, eqb, take, replicate, if◌then◌else◌, Option, None, Some}
 use Rattle.pretree.specs.Table.{row_words}
 use Rattle.pretree.specs.declared.Header.{Header}
 use Rattle.pretree.specs.declared.Reply.{Reply}
@@ -9,8 +9,6 @@ use Rattle.pretree.specs.Reply.{fresh}
 use Rattle.pretree.specs.Call.{After, after}
 use Rattle.pretree.specs.declared.Call.{Call}
 use Rattle.pretree.specs.declared.Call.TheVariants.{New, Add, Del, Has, Next, Prev, Gap, First, Last, Audit}
-use Rattle.lines.specs.declared.Line.{Line}
-use Rattle.lines.specs.declared.Line.TheVariants.{Read, Unread}
 use Rattle.lines.specs.declared.ReplyFields.{ReplyFields}
 use Rattle.lines.specs.Line.{parse}
 use Rattle.lines.specs.Render.{fields_of, not_read, reply_line, key_lines}
@@ -49,14 +47,14 @@ pub record Step : Type 0 where
   pub fields : ReplyFields
   pub listed : List ℕ
 
-unfoldable pub answer : State → Line → Step
-answer s Unread =
+unfoldable pub answer : State → Option Call → Step
+answer s None =
     record {
       state = record { header = s.header; table = s.table; buffer = s.buffer; lines = suc s.lines };
       fields = not_read;
       listed = [];
     }
-answer s (Read call) =
+answer s (Some call) =
     let a : After = after call s.header s.table s.buffer in
     record {
       state = record { header = a.reply.header; table = a.table; buffer = a.buffer; lines = suc s.lines };

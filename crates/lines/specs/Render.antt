@@ -2,13 +2,9 @@
 -- Document 01: "Each line gives one reply line: line number from 1, answer number, key or `-`, rows read, moving count, parted by tabs. After
 -- a `list` with answer 0 come lines `key`, tab, word."
 -- Document 02 §1: "every reply line ends with one more field: the serial for a `has` that found its word, `-` elsewhere."
-use Rattle.std.specs.Prelude.{ℕ, zero, suc, ◌+◌, ◌/◌, ◌%◌, ◌≡◌, List, [], ◌∷◌, ◌++◌, ltb, length, if◌then◌else◌}
-use Rattle.std.proofs.lemmas.List.Edits.{sets}
-use Rattle.ordered.specs.Such.{Perhaps, no_such, such}
+use Rattle.std.specs.Prelude.{ℕ, zero, suc, ◌+◌, ◌/◌, ◌%◌, List, [], ◌∷◌, ◌++◌, ltb, if◌then◌else◌, Option, None, Some}
 use Rattle.pretree.specs.declared.Reply.{Reply}
 use Rattle.pretree.specs.Answer.{number_of, key_of, serial_of}
-use Rattle.numbers.specs.declared.Number.{Number}
-use Rattle.numbers.specs.declared.Number.TheVariants.{Of, Nothing}
 use Rattle.lines.specs.declared.ReplyFields.{ReplyFields}
 use Rattle.lines.specs.Text.{bytes}
 
@@ -32,28 +28,24 @@ abbrev pub field : ℕ → List ℕ
 field n = bytes "\t" ++ digits n
 
 -- a tab and a number, or `-` where there is none: the key and the serial
-abbrev pub field_or_dash : Number → List ℕ
-field_or_dash Nothing = bytes "\t-"
-field_or_dash (Of n) = field n
-
-abbrev pub as_number : Perhaps ℕ → Number
-as_number no_such = Nothing
-as_number (such k) = Of k
+abbrev pub field_or_dash : Option ℕ → List ℕ
+field_or_dash None = bytes "\t-"
+field_or_dash (Some n) = field n
 
 -- the fields of a reply line after its line number
 abbrev pub fields_of : Reply → ReplyFields
 fields_of r =
     record {
       answer = number_of r.answer;
-      key = as_number (key_of r.answer);
+      key = key_of r.answer;
       rows = r.rows;
       moved = r.moved;
-      serial = as_number (serial_of r.answer);
+      serial = serial_of r.answer;
     }
 
 -- answer 9: "program only: line not read"
 abbrev pub not_read : ReplyFields
-not_read = record { answer = 9; key = Nothing; rows = 0; moved = 0; serial = Nothing }
+not_read = record { answer = 9; key = None; rows = 0; moved = 0; serial = None }
 
 unfoldable pub reply_line : ℕ → ReplyFields → List ℕ
 reply_line line s =
@@ -65,8 +57,3 @@ key_line k = bytes "key" ++ field k ++ bytes "\n"
 unfoldable pub key_lines : List ℕ → List ℕ
 key_lines [] = []
 key_lines (k ∷ ks) = key_line k ++ key_lines ks
-
--- a text was put into a buffer at a place, the rest of the buffer is as it was, and `next` is the place after the text
-pub record Put (buffer : List ℕ) (at : ℕ) (text : List ℕ) (left : List ℕ) (next : ℕ) : Type 0 where
-  pub content : left ≡ sets buffer at text
-  pub place : next ≡ at + length text

@@ -1,25 +1,13 @@
 -- What the loop over standard input keeps from piece to piece, and what it writes.
-use Rattle.std.specs.Prelude.{ℕ, zero, suc, ◌+◌, ◌*◌, ◌-◌, ◌≤◌, ◌≡◌, Bool, true, List, [], ◌∷◌, length, take, if◌then◌else◌}
+use Rattle.std.specs.Prelude.{ℕ, zero, suc, ◌+◌, ◌≤◌, ◌≡◌, List, [], ◌∷◌, length, take}
 use Rattle.lines.specs.declared.session.Session.{Session as CodeSession}
-use Rattle.lines.specs.declared.serve.PieceResult.{PieceResult}
 use Rattle.lines.specs.Output.{Session, start_session, session_after, written_for_piece}
-use Rattle.lines.specs.Gather.{HoldsLine}
-use Rattle.lines.specs.Answering.{state_of}
-
--- the buffer has room to see that a line is too long, and `out` has room for the longest reply
-pub record Sizes (words buffer out : List ℕ) : Type 0 where
-  pub holds : length buffer ≡ 65
-  pub room : 76 + 15 * length words ≤ length out
-
--- the program's memory keeps a session: its state, and the bytes that are held of its line
-pub record Keeps (s : Session) (k : CodeSession) (table words buffer : List ℕ) : Type 0 where
-  pub state : state_of k.header table words k.lines ≡ s.state
-  pub held : HoldsLine buffer k.held s.line
+use Rattle.lines.specs.Answering.{Keeps}
 
 -- the memory keeps the session after some input from the start
-pub record Reached (k : CodeSession) (table words buffer : List ℕ) : Type 0 where
+pub record Reached (k : CodeSession) : Type 0 where
   pub input : List ℕ
-  pub keeps : Keeps (session_after start_session input) k table words buffer
+  pub keeps : Keeps (session_after start_session input) k
 
 -- a text is what has to be written for some input, after some input before it
 pub record IsOutput (text : List ℕ) : Type 0 where
@@ -34,14 +22,9 @@ piece_of zero zero input = []
 piece_of zero (suc held) input = 10 ∷ []
 piece_of (suc count) held input = take (suc count) input
 
--- the turns left after a read of `count` bytes, by whether every reply was written: none at the end of input, none after a failed write
-unfoldable pub turns_left : ℕ → ℕ → Bool → ℕ
-turns_left turns zero written = 0
-turns_left turns (suc count) written = if written then turns - 1 else 0
-
 -- A piece was taken in: all of it if every reply to it was written, otherwise its first bytes. There are no more lines than bytes.
-pub record Takes (piece : List ℕ) (k : CodeSession) (table words buffer : List ℕ) (r : PieceResult) (rows list hold : List ℕ) : Type 0 where
+pub record Takes (piece : List ℕ) (before after : CodeSession) (written : Type 0) : Type 0 where
   pub bytes : ℕ
-  pub all : r.written ≡ true → bytes ≡ length piece
-  pub keeps : (s : Session) → Keeps s k table words buffer → Keeps (session_after s (take bytes piece)) r.session rows list hold
-  pub lines : r.session.lines ≤ k.lines + length piece
+  pub all : written → bytes ≡ length piece
+  pub keeps : (s : Session) → Keeps s before → Keeps (session_after s (take bytes piece)) after
+  pub lines : after.lines ≤ before.lines + length piece

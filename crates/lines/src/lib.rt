@@ -4,31 +4,20 @@
 
 // `answer`, `parse` and `reply` are public because crate `raw` uses them too.
 pub mod answer;
-mod find;
-mod gather;
 pub mod parse;
 mod put;
 pub mod reply;
 mod serve;
 mod session;
 
-use numbers::Number;
-use pretree::Call;
 pub use serve::run;
 
-// What a line is read as. "Anything else [..] is answer 9."
-#[derive(Clone, Copy)]
-pub enum Line {
-    Read(Call),
-    Unread,
-}
-
-// The fields of a reply line after its line number.
-#[derive(Clone, Copy)]
+// The fields of a reply line after its line number. `answer` is the number that the line shows: 9, for a line that is not read, is no `Answer`.
+#[derive(Clone, Copy, Debug, PartialEq, Eq)]
 pub struct ReplyFields {
     pub answer: u32,
-    pub key: Number,
+    pub key: Option<u32>,
     pub rows: u32,
     pub moved: u32,
-    pub serial: Number,
+    pub serial: Option<u32>,
 }

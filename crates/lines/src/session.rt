@@ -1,129 +1,105 @@
 // A session takes its input in pieces. Whole lines are answered. The bytes of a line that has not ended are held until the next piece.
 
-ghost use Rattle.std.specs.Prelude.{◌≡◌, ◌+◌, ◌*◌, ◌-◌, ◌<◌, ◌≤◌, ◌^◌, length, take, drop};
-ghost use Rattle.lines.specs.Answering.{after_line, FeedsFromHeld, Advances};
+ghost use Rattle.std.specs.Prelude.{◌≡◌, ◌+◌, ◌<◌, ◌≤◌, ◌^◌, [], length};
+ghost use Rattle.arrayvec.specs.ArrayVec.{array_vec_len};
+ghost use Rattle.lines.specs.Line.{parse};
+ghost use Rattle.lines.specs.Output.{start_session, answer};
+ghost use Rattle.lines.specs.Answering.{state_of, Answers, Keeps, Advances};
 
-use crate::answer::{LineResult, answer};
-use crate::find::place_of;
-use crate::gather::hold;
+use crate::answer::run;
+use crate::parse::parse;
+use crate::put::{Output, put_keys, put_reply};
+use crate::reply::{not_read, reply_fields};
+use arrayvec::ArrayVec;
+use console::{hold, place_of};
 use pretree::Header;
 
-// What is kept between two pieces: the header, how many lines were answered, and how many bytes of a line are held.
-#[derive(Clone, Copy)]
+// The most bytes that a reply has: 76, and 15 more for each listed word.
+const LONGEST_REPLY: usize = 76 + 15 * 4096;
+
+// One byte more than the longest line has: it shows a line to be too long.
+type Held = ArrayVec<u8, 65>;
+
+// The header, the table and the `list` buffer; how many lines were answered; what is held of a line that has not ended; and the replies that
+// are not written yet.
+#[derive(Drop)]
 pub struct Session {
     pub header: Header,
+    pub table: [u32; 16384],
+    pub words: [u32; 4096],
     pub lines: u64,
-    pub held: usize,
+    pub held: Held,
+    pub out: Output,
 }
 
-// The session after a part of a piece, the place in the piece after that part, and the place in `out` after the replies.
-#[derive(Clone, Copy)]
-pub struct Progress {
-    pub session: Session,
-    pub from: usize,
-    pub next: usize,
-}
-
-// Answers the line that ends first after the place `from` of a piece. If none ends, holds the rest of the piece.
-fn step(
-    session: Session,
-    piece: &[u8],
-    from: usize,
-    table: &mut [u32],
-    words: &mut [u32],
-    buffer: &mut [u8],
-    out: &mut [u8],
-    at: usize,
-) -> Progress
-    requires lines_bound { session.lines + 1 < 2 ^ 64 }
-    requires words_in_bounds { at + 76 + 15 * length words.old ≤ length out.old }
-    requires buffer_len { (length buffer.old ≡ 65) × (session.held ≤ 65) }
-    requires from_in_bounds { from < length piece.now }
-    ensures feeds_from_held { FeedsFromHeld session table.old words.old buffer.old out.old at
-        (take (result.from - from) (drop from piece.now))
-        result table.new words.new buffer.new out.new }
-    ensures advances { Advances from (length piece.now) (length out.new) session result }
-{
-    let lines = session.lines;
-    let end = place_of(b'\n', piece, from);
-    let held = hold(buffer, session.held, &piece[from..end]);
-    if end == piece.len() {
-        let mut kept = session;
-        kept.held = held;
-        return Progress {
-            session: kept,
-            from: end,
-            next: at,
-        };
-    }
-    let result = answer(
-        &buffer[..held],
-        lines,
-        session.header,
-        table,
-        words,
-        out,
-        at,
-    );
-    after_line(result, lines + 1, end + 1)
-}
-
-// The progress after a line that ended; no byte of the next line is held. Separate because the checker is slow on nested structs beside slices;
-// so are `line_result` and `piece_result`.
-fn after_line(res: LineResult, lines: u64, from: usize) -> Progress
-    ensures { result ≡ after_line res lines from }
-{
-    let header = res.header;
-    Progress {
-        session: Session {
-            header,
-            lines,
-            held: 0,
-        },
-        from,
-        next: res.next,
-    }
-}
-
-// Answers a piece from the place `from` on. Stops at the end of the piece, or when `out` may have no room for one more reply.
-pub(crate) fn feed(
-    session: Session,
-    piece: &[u8],
-    from: usize,
-    table: &mut [u32],
-    words: &mut [u32],
-    buffer: &mut [u8],
-    out: &mut [u8],
-) -> Progress
-    requires piece_bound { session.lines + length piece.now < 2 ^ 64 + from }
-    requires words_in_bounds { 76 + 15 * length words.old ≤ length out.old }
-    requires buffer_len { (length buffer.old ≡ 65) × (session.held ≤ 65) }
-    requires from_in_bounds { from < length piece.now }
-    ensures feeds_from_held { FeedsFromHeld session table.old words.old buffer.old out.old 0
-        (take (result.from - from) (drop from piece.now))
-        result table.new words.new buffer.new out.new }
-    ensures advances { Advances from (length piece.now) (length out.new) session result }
-{
-    let most = 76 + 15 * words.len();
-    let mut progress = Progress {
-        session,
-        from,
-        next: 0,
-    };
-    while progress.from < piece.len() {
-        if out.len() - progress.next < most {
-            return progress;
+impl Session {
+    // "Table of 4,096 rows, all zeros, and a `list` buffer of 4,096 words. Header at the start: W 0, count 0."
+    pub(crate) fn start() -> Session
+        ensures { Keeps start_session result }
+    {
+        Session {
+            header: Header::fresh(0),
+            table: [0; 16384],
+            words: [0; 4096],
+            lines: 0,
+            held: Held::new(),
+            out: Output::new(),
         }
-        progress = step(
-            progress.session,
-            piece,
-            progress.from,
-            table,
-            words,
-            buffer,
-            out,
-            progress.next,
-        );
     }
-    progress
+
+    // Answers a line, at the end of `out`. The bounds on `lines` and `out` here and below are no ghost fields: each asks for another number.
+    fn answer(&mut self, line: &[u8])
+        requires lines_bound { self.old.lines + 1 < 2 ^ 64 }
+        requires room { array_vec_len self.old.out + 61516 ≤ 131072 }
+        ensures { Answers (answer (state_of self.old) (parse line.now)) self.old self.new }
+    {
+        self.lines += 1;
+        match parse(line) {
+            Some(call) => {
+                let done = run(call, self.header, &mut self.table, &mut self.words);
+                self.header = done.reply.header;
+                put_reply(&mut self.out, self.lines, reply_fields(done.reply));
+                let listed = &self.words[..done.listed as usize];
+                put_keys(&mut self.out, listed);
+            }
+            None => put_reply(&mut self.out, self.lines, not_read()),
+        }
+    }
+
+    // Answers the line that ends first in a piece. If none ends, holds the piece. Returns the rest of the piece.
+    fn step<'a>(&mut self, piece: &'a [u8]) -> &'a [u8]
+        requires lines_bound { self.old.lines + 1 < 2 ^ 64 }
+        requires room { array_vec_len self.old.out + 61516 ≤ 131072 }
+        requires some { 0 < length piece.now }
+        ensures { Advances piece.now result.now self.old.out.items self.old self.new }
+    {
+        let Some(end) = place_of(b'\n', piece) else {
+            hold(&mut self.held, piece);
+            return &[];
+        };
+        // A line that lies in the piece whole is not copied.
+        if self.held.is_empty() {
+            self.answer(&piece[..end]);
+            return &piece[end + 1..];
+        }
+        hold(&mut self.held, &piece[..end]);
+        let line = self.held.take();
+        self.answer(&line);
+        &piece[end + 1..]
+    }
+
+    // Answers the lines of a piece, in a new output. Stops at the end of the piece, or when `out` may have no room for one more reply. Returns
+    // the rest of the piece.
+    pub(crate) fn feed<'a>(&mut self, piece: &'a [u8]) -> &'a [u8]
+        requires piece_bound { self.old.lines + length piece.now < 2 ^ 64 }
+        requires some { 0 < length piece.now }
+        ensures { Advances piece.now result.now [] self.old self.new }
+    {
+        self.out.clear();
+        let mut rest = piece;
+        while !rest.is_empty() && LONGEST_REPLY <= self.out.remaining_capacity() {
+            rest = self.step(rest);
+        }
+        rest
+    }
 }

@@ -1,12 +1,18 @@
-use Rattle.lines.proofs.KeyLines.{none_listed, one_listed}
+use mathlib.Core.Path.{sym}
+use mathlib.Core.List.{append_assoc, append-nil}
+use native.Mathlib.Omega.{arith}
+use Rattle.lines.specs.Render.{key_lines}
+use Rattle.lines.proofs.KeyLines.{next_line}
 use Rattle.lines.proofs.put.put_keys.Goals as goal
 
-pub loop-i-init : goal.loop-i-init
-loop-i-init c =
-    let a = c.args in
-    (none_listed a.out.now a.at a.words.now, c.requires)
+pub loop-word-init : goal.loop-word-init
+unfolding key_lines
+loop-word-init c = record { put = sym (append-nil c.args.out.now.items); room = omega arith }
 
-pub loop-i-preserved : goal.loop-i-preserved
-loop-i-preserved c =
-    let p = c.put_key_line-next.ensures in
-    (one_listed c.loop-i.invariant.0 c.loop-i-test.true p.put p.upper_bound, c.loop-i.invariant.1)
+pub loop-word-preserved : goal.loop-word-preserved
+loop-word-preserved c =
+    let l = c.loop-word in
+    record {
+      put = rw (next_line c.args.words.now l.word-index (omega arith), ← append_assoc, ← l.invariant.put) c.put_key_line.ensures.put;
+      room = omega arith;
+    }

@@ -1,12 +1,14 @@
--- The loop's invariant: the lines of the first i words are put.
-use Prim.Native.Nat.{◌+◌, ◌*◌, ◌-◌, ◌≤◌}
-use lib.ListN.{length}
-use Rattle.lines.proofs.KeyLines.{KeyLinesLoop}
+-- The loop's invariant: the lines of the words so far are put.
+use Prim.Native.Nat.{◌+◌, ◌*◌, ◌≤◌}
+use mathlib.Core.Path.{◌≡◌}
+use mathlib.Core.List.{◌++◌}
+use lib.ListN.{take}
+use Rattle.arrayvec.specs.ArrayVec.{array_vec_len}
+use Rattle.lines.specs.Render.{key_lines}
 use Rattle.lines.proofs.put.put_keys.Given as goal
 
-abbrev pub invariant-loop-i : goal.invariant-loop-i
-invariant-loop-i l =
-    KeyLinesLoop l.initial.out l.at l.words l.out l.next l.i × (l.at + 15 * length l.words ≤ length l.initial.out)
-
-abbrev pub decreases-loop-i : goal.decreases-loop-i
-decreases-loop-i l = length l.words - l.i
+abbrev pub invariant-loop-word : goal.invariant-loop-word
+invariant-loop-word l = record {
+  put : l.out.items ≡ l.initial.out.items ++ key_lines (take l.word-index l.words);
+  room : array_vec_len l.out ≤ array_vec_len l.initial.out + 15 * l.word-index;
+}

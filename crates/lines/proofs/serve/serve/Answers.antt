@@ -1,41 +1,21 @@
-use mathlib.Core.Path.{refl}
 use native.Mathlib.Omega.{arith}
-use Rattle.lines.proofs.Serving.{reached_start, no_lines, enough, may_read, served_after, fewer_turns}
+use lib.ListN.{take}
+use Rattle.arrayvec.specs.ArrayVec.{array_vec_len}
+use Rattle.lines.specs.Serving.{piece_of}
+use Rattle.lines.proofs.Serving.{reached_start, reached_after, no_lines, piece_within}
 use Rattle.lines.proofs.serve.serve.Goals as goal
 
-pub loop-turns-init : goal.loop-turns-init
-loop-turns-init g c =
-    let pre = c.requires in
+pub loop-turn-init : goal.loop-turn-init
+loop-turn-init g c = record { reached = reached_start c.requires; lines = omega (arith, no_lines c.requires) }
+
+pub loop-turn-preserved : goal.loop-turn-preserved
+loop-turn-preserved g c =
+    let i = c.loop-turn in
+    let t = c.take_in.ensures in
+    let input = c.read.new.input in
+    let count = c.in_ok-count.count in
+    let held = array_vec_len i.session.held in
     record {
-      lent =
-          record {
-            table_size = refl;
-            words_size = refl;
-            buffer_size = refl;
-            out_size = refl;
-            holds = pre.sizes.holds;
-            room = pre.sizes.room;
-          };
-      input_size = refl;
-      some = pre.input_nonzero.0;
-      most = pre.input_nonzero.1;
-      reached = reached_start pre.keeps;
-      lines = omega (arith, no_lines pre.keeps);
+      reached = reached_after (take t.bytes (piece_of count held input)) i.invariant.reached t.keeps;
+      lines = omega (arith, t.lines, i.invariant.lines, piece_within input count held (omega (arith, c.read.ensures.size)));
     }
-
-pub take_in-result-requires : goal.take_in-result-requires
-take_in-result-requires g c =
-    let i = c.loop-turns.invariant in
-    let fits = may_read i c.read.new.input c.read.auto.input c.loop-turns-test.true in
-    record { sizes = enough i; reached = i.reached; count_in_bounds = (c.in_ok-count.ensures.count, fits.0); input_bound = fits.1 }
-
-pub loop-turns-smaller : goal.loop-turns-smaller
-loop-turns-smaller g c =
-    rw c.turns_left-turns.ensures (fewer_turns c.loop-turns.turns c.in_ok-count.count c.take_in-result.result.written c.loop-turns-test.true)
-
-pub loop-turns-preserved : goal.loop-turns-preserved
-loop-turns-preserved g c =
-    let k = c.take_in-result in
-    rw c.turns_left-turns.ensures (
-    served_after c.loop-turns.invariant c.read.new.input c.read.auto.input c.loop-turns-test.true c.in_ok-count.count k.ensures k.auto.table k.auto.words k.auto.buffer k.auto.input k.auto.out
-    )
