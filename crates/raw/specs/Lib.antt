@@ -1,3 +1,2 @@
--- What the contracts of `raw` cite: the state of the program, and what a call does to it.
-pub mod Fits
+-- What the contracts of `raw` cite: what a call does to what was set.
 pub mod Outcome

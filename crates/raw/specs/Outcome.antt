@@ -3,14 +3,14 @@ use Rattle.std.specs.Prelude.{◌≡◌, ℕ, true, false, List, take, replicate
 use Rattle.pretree.specs.declared.Header.{Header}
 use Rattle.pretree.specs.declared.Call.{Call}
 use Rattle.pretree.specs.Call.{After, after}
-use Rattle.raw.specs.declared.State.{State}
+use Rattle.raw.specs.declared.state.State.{State}
 
 -- The call gets the words of the table that were set, and a blank buffer.
 abbrev pub outcome : Call → State → List ℕ → After
 outcome call s table = after call s.header (take s.size table) (replicate s.room 2863311530)
 
 abbrev pub with_header : State → Header → State
-with_header s h = record { header = h; size = s.size; room = s.room; keep = s.keep; lines = s.lines; held = s.held }
+with_header s h = record s { header = h }
 
 -- With `keep`, header and table are then what the call left. With `fresh`, nothing has changed.
 pub record SetAfter (call : Call) (s : State) (table : List ℕ) (r : State) (left : List ℕ) : Type 0 where

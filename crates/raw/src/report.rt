@@ -1,16 +1,14 @@
 // The reports on standard output: a reply line, the header, and a line for each word that changed.
 
 ghost use Rattle.std.specs.Prelude.{◌≡◌, length};
-ghost use Rattle.raw.specs.Fits.{Fits};
 
-use crate::State;
 use crate::calls::BLANK;
 use lines::ReplyFields;
 use lines::reply::{not_read, reply_fields};
-use numbers::Number;
-use pretree::{Header, Reply};
-use std::io;
+use pretree::Reply;
+use std::fmt::{Display, Formatter};
 use std::io::{Stdout, Write};
+use std::{fmt, io};
 
 // Standard output, and whether all of it could be written so far. After a write that failed nothing more is written: the calls go on, and `flush`
 // returns the error.
@@ -28,15 +26,9 @@ impl Output {
         }
     }
 
-    fn put(&mut self, text: &[u8]) {
+    fn put_line<D: Display + Drop>(&mut self, line: D) {
         if self.written.is_ok() {
-            self.written = self.out.write_all(text);
-        }
-    }
-
-    fn put_number(&mut self, n: u64) {
-        if self.written.is_ok() {
-            self.written = write!(self.out, "{n}");
+            self.written = writeln!(self.out, "{line}");
         }
     }
 
@@ -48,88 +40,58 @@ impl Output {
 }
 
 // Answer 9, "program only: line not read". Nothing is changed.
-pub(crate) fn unread(out: &mut Output, state: State) -> State
-    requires { Fits state }
-    ensures value { result ≡ state }
-    ensures fits { Fits result }
-{
-    reply_line(out, state.lines, not_read());
-    state
+pub(crate) fn unread(out: &mut Output, line: u64) {
+    reply_line(out, line, not_read());
 }
 
-pub(crate) fn reply(out: &mut Output, line: u64, reply: Reply) {
-    let after = reply.header;
+// What a call answered, and the words of the table and the buffer that it changed.
+pub(crate) fn outcome(
+    out: &mut Output,
+    line: u64,
+    reply: Reply,
+    before: &[u32],
+    after: &[u32],
+    buffer: &[u32],
+) {
     reply_line(out, line, reply_fields(reply));
-    header_line(out, after);
+    let header = reply.header;
+    out.put_line(format_args!("header\t{}\t{}", header.width, header.count));
+    for (place, (old, new)) in before.iter().zip(after).enumerate() {
+        if old != new {
+            out.put_line(format_args!("word\t{place}\t{new}"));
+        }
+    }
+    for (place, word) in buffer.iter().enumerate() {
+        if *word != BLANK {
+            out.put_line(format_args!("key\t{place}\t{word}"));
+        }
+    }
 }
 
-// "line number from 1, answer number, key or `-`, rows read, moving count, parted by tabs"
+// "line number from 1, answer number, key or `-`, rows read, moving count, parted by tabs". Crate lines writes the same text into its own output, with
+// a proof of each byte; here `Display` is plainer.
 // Document 02 §1: "every reply line ends with one more field: the serial for a `has` that found its word, `-` elsewhere"
 fn reply_line(out: &mut Output, line: u64, fields: ReplyFields) {
-    let key = fields.key;
-    let serial = fields.serial;
-    out.put_number(line);
-    field(out, fields.answer);
-    field_or_dash(out, key);
-    field(out, fields.rows);
-    field(out, fields.moved);
-    field_or_dash(out, serial);
-    line_end(out);
+    let ReplyFields {
+        answer,
+        key,
+        rows,
+        moved,
+        serial,
+    } = fields;
+    let (key, serial) = (OrDash(key), OrDash(serial));
+    out.put_line(format_args!("{line}\t{answer}\t{key}\t{rows}\t{moved}\t{serial}"));
 }
 
-fn header_line(out: &mut Output, header: Header) {
-    out.put(b"header");
-    field(out, header.width);
-    field(out, header.count);
-    line_end(out);
-}
+// A number, or `-` where there is none.
+#[derive(Clone, Copy)]
+struct OrDash(Option<u32>);
 
-// The words of the table that a call changed.
-pub(crate) fn changed_words(out: &mut Output, before: &[u32], after: &[u32])
-    requires { length after.now ≡ length before.now }
-{
-    let mut i = 0;
-    while i < before.len() {
-        if before[i] != after[i] {
-            word_line(out, b"word", i, after[i]);
-        }
-        i += 1;
-    }
-}
-
-// The words of the buffer that a call changed.
-pub(crate) fn changed_buffer(out: &mut Output, buffer: &[u32]) {
-    let mut i = 0;
-    while i < buffer.len() {
-        if buffer[i] != BLANK {
-            word_line(out, b"key", i, buffer[i]);
-        }
-        i += 1;
-    }
-}
-
-fn word_line(out: &mut Output, name: &[u8], place: usize, word: u32) {
-    out.put(name);
-    out.put(b"\t");
-    out.put_number(place as u64);
-    field(out, word);
-    line_end(out);
-}
-
-fn field_or_dash(out: &mut Output, number: Number) {
-    match number {
-        Number::Of(n) => field(out, n),
-        Number::Nothing => {
-            out.put(b"\t-");
+impl Display for OrDash {
+    fn fmt<W: fmt::Write>(&self, f: &mut Formatter<W>) -> fmt::Result {
+        match self.0 {
+            Some(n) => write!(f, "{n}"),
+            None => write!(f, "-"),
         }
     }
-}
-
-fn field(out: &mut Output, n: u32) {
-    out.put(b"\t");
-    out.put_number(n as u64);
-}
-
-fn line_end(out: &mut Output) {
-    out.put(b"\n");
 }

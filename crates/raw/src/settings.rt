@@ -1,160 +1,95 @@
-// The lines that set something. A line with too few or too many numbers, or with a number that is out of range, is not read.
+// The lines that set something: a word, then numbers, each after one tab. A line with too few or too many numbers, or with a number that is out
+// of range, is not read.
 
-ghost use Rattle.std.specs.Prelude.{◌≡◌, ◌+◌, ◌≤◌, length};
-ghost use Rattle.raw.specs.Fits.{Fits};
-
-use crate::calls::{copy_words, fill_words};
-use crate::parse::{Numbers, Setting, read_numbers};
-use crate::report::{Output, unread};
-use crate::{State, Table};
+use crate::Runner;
+use crate::state::BUFFER_WORDS;
+use arrayvec::ArrayVec;
+use numbers::read_number;
 use pretree::Header;
 
-pub(crate) fn apply_line(
-    out: &mut Output,
-    state: State,
-    word: Setting,
-    rest: &[u8],
-    table: &mut Table,
-) -> State
-    requires { Fits state }
-    ensures { Fits result }
-{
-    let mut values = [0u32; 128];
-    let found = read_numbers(rest, &mut values);
-    apply_numbers(out, state, word, found, &values, table)
+// It is chosen by the word and matched with the numbers: a match on both at once would read the numbers of a line that is a call.
+#[derive(Clone, Copy)]
+pub enum Setting {
+    Header,
+    Table,
+    Word,
+    Buffer,
+    Keep,
+    Fresh,
 }
 
-// Separate, as `clear_words` and `write_words` are, because the checker takes a part of a slice, but not of an array behind a reference.
-fn apply_numbers(
-    out: &mut Output,
-    state: State,
-    word: Setting,
-    found: Numbers,
-    values: &[u32; 128],
-    table: &mut Table,
-) -> State
-    requires { (Fits state) × (found.count ≤ 128) }
-    ensures { Fits result }
-{
-    let all = &values[..];
-    let n = found.count;
-    if found.read {
-        apply(out, state, word, &all[0..n], table)
-    } else {
-        unread(out, state)
-    }
-}
-
-fn apply(out: &mut Output, state: State, word: Setting, values: &[u32], table: &mut Table) -> State
-    requires { Fits state }
-    ensures { Fits result }
-{
+// What a line sets, by its first word; `None` where it sets nothing.
+pub(crate) fn setting_of(line: &[u8]) -> Option<Setting> {
+    let word = line.split(|byte| *byte == b'\t').next()?;
     match word {
-        Setting::Header => set_header(out, state, values),
-        Setting::Table => set_table(out, state, values, table),
-        Setting::Word => set_words(out, state, values, table),
-        Setting::Buffer => set_buffer(out, state, values),
-        Setting::Keep => set_keep(out, state, true, values),
-        _ => set_keep(out, state, false, values),
+        b"header" => Some(Setting::Header),
+        b"table" => Some(Setting::Table),
+        b"word" => Some(Setting::Word),
+        b"buffer" => Some(Setting::Buffer),
+        b"keep" => Some(Setting::Keep),
+        b"fresh" => Some(Setting::Fresh),
+        _ => None,
     }
 }
 
-// `header` W count
-fn set_header(out: &mut Output, mut state: State, values: &[u32]) -> State
-    requires { Fits state }
-    ensures { Fits result }
-{
-    if values.len() != 2 {
-        return unread(out, state);
+// The numbers after a line's first word. A line of 256 bytes has no more than 126.
+pub(crate) fn read_numbers(line: &[u8]) -> Option<ArrayVec<u32, 128>> {
+    let mut values = ArrayVec::new();
+    for field in line.split(|byte| *byte == b'\t').skip(1) {
+        values.try_push(read_number(field)?).ok()?;
     }
-    let set = Header {
-        width: values[0],
-        count: values[1],
-    };
-    state.header = set;
-    state
+    Some(values)
 }
 
-// `table` n: n words, all 0
-fn set_table(out: &mut Output, mut state: State, values: &[u32], table: &mut Table) -> State
-    requires { Fits state }
-    ensures { Fits result }
-{
-    if values.len() != 1 {
-        return unread(out, state);
+impl Runner {
+    // `None` where these values cannot be set; then nothing has changed.
+    pub(crate) fn set(&mut self, setting: Setting, values: &[u32]) -> Option<()> {
+        match (setting, values) {
+            (Setting::Header, [width, count]) => {
+                self.state.header = Header {
+                    width: *width,
+                    count: *count,
+                };
+                Some(())
+            }
+            (Setting::Table, [n]) => self.set_table(*n as usize),
+            (Setting::Word, [from, words @ ..]) => self.set_words(*from as usize, words),
+            (Setting::Buffer, [n]) => self.set_buffer(*n as usize),
+            (Setting::Keep, []) => {
+                self.state.keep = true;
+                Some(())
+            }
+            (Setting::Fresh, []) => {
+                self.state.keep = false;
+                Some(())
+            }
+            _ => None,
+        }
     }
-    let n = wide(values[0]);
-    if 262144 < n {
-        return unread(out, state);
-    }
-    clear_words(table, n);
-    state.size = n;
-    state
-}
 
-fn clear_words(table: &mut [u32], n: usize)
-    requires { n ≤ length table.old }
-{
-    fill_words(&mut table[0..n], 0);
-}
+    // `table` n: n words, all 0
+    fn set_table(&mut self, n: usize) -> Option<()> {
+        self.table.get_mut(..n)?.fill(0);
+        self.state.size = n;
+        Some(())
+    }
 
-// `word` i v v ..: the table's words from word i on
-fn set_words(out: &mut Output, state: State, values: &[u32], table: &mut Table) -> State
-    requires { Fits state }
-    ensures { Fits result }
-{
-    if values.len() < 2 {
-        return unread(out, state);
+    // `word` i v v ..: the table's words from word i on
+    fn set_words(&mut self, from: usize, words: &[u32]) -> Option<()> {
+        let end = from.checked_add(words.len())?;
+        if words.is_empty() || self.state.size < end {
+            return None;
+        }
+        self.table[from..end].copy_from_slice(words);
+        Some(())
     }
-    let from = wide(values[0]);
-    if state.size < from {
-        return unread(out, state);
-    }
-    if state.size - from < values.len() - 1 {
-        return unread(out, state);
-    }
-    write_words(table, from, &values[1..]);
-    state
-}
 
-fn write_words(table: &mut [u32], from: usize, words: &[u32])
-    requires { from + length words.now ≤ length table.old }
-{
-    let end = from + words.len();
-    copy_words(words, &mut table[from..end]);
-}
-
-// `buffer` n: a buffer of n words
-fn set_buffer(out: &mut Output, mut state: State, values: &[u32]) -> State
-    requires { Fits state }
-    ensures { Fits result }
-{
-    if values.len() != 1 {
-        return unread(out, state);
+    // `buffer` n: a buffer of n words
+    fn set_buffer(&mut self, n: usize) -> Option<()> {
+        if BUFFER_WORDS < n {
+            return None;
+        }
+        self.state.room = n;
+        Some(())
     }
-    let n = wide(values[0]);
-    if 65536 < n {
-        return unread(out, state);
-    }
-    state.room = n;
-    state
-}
-
-// `keep`, `fresh`
-fn set_keep(out: &mut Output, mut state: State, keep: bool, values: &[u32]) -> State
-    requires { Fits state }
-    ensures { Fits result }
-{
-    if values.len() != 0 {
-        return unread(out, state);
-    }
-    state.keep = keep;
-    state
-}
-
-// Separate because the checker then needs no proof that the cast fits.
-fn wide(n: u32) -> usize
-    ensures { result ≡ n }
-{
-    n as usize
 }
