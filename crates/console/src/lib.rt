@@ -50,16 +50,11 @@ pub fn hold<const N: usize>(held: &mut ArrayVec<u8, N>, part: &[u8])
     held.try_extend_from_slice(&part[..fits]).unwrap();
 }
 
-// Says what went wrong, on standard error. The program's status shows the failure too, so it does not matter if the message is not written.
-// No contract: std promises nothing of what `eprintln` writes.
-pub fn say<R: Eprint, D: Display + Drop>(rt: &R, message: D) {
-    let _ = rt.eprintln(message);
-}
-
-// The status of a program that could not do all, once it has said why.
+// The status of a program that could not do all, once it has said why on standard error. The status shows the failure too, so it does not matter
+// if the message is not written.
 pub fn failure<R: Eprint, D: Display + Drop>(rt: &R, message: D) -> ExitCode
     ensures { result ≡ ExitCode.FAILURE }
 {
-    say(rt, message);
+    let _ = rt.eprintln(message);
     ExitCode::FAILURE
 }

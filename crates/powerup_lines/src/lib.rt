@@ -7,6 +7,7 @@ mod line;
 
 use arguments::Arguments;
 use arrayvec::ArrayVec;
+use console::failure;
 use line::Line;
 use std::io;
 use std::io::{Eprint, Input, Print, Read, Write};
@@ -19,15 +20,13 @@ const BLOCK: usize = 2500;
 // The status is a success if the edition is 1 or 2, no read failed and every line was written.
 pub fn run<R: Env + Input + Print + Eprint>(rt: &R) -> ExitCode {
     let arguments = Arguments::read(rt);
-    if arguments.edition.is_none() {
-        console::say(rt, "powerup: the edition is neither 1 nor 2");
-    }
-    if let Err(e) = blocks(&mut rt.reader(), &mut io::writer(rt), arguments) {
-        return console::failure(rt, format_args!("powerup: {e}"));
-    }
-    match arguments.edition {
+    let status = match arguments.edition {
         Some(_) => ExitCode::SUCCESS,
-        None => ExitCode::FAILURE,
+        None => failure(rt, "powerup: the edition is neither 1 nor 2"),
+    };
+    match blocks(&mut rt.reader(), &mut io::writer(rt), arguments) {
+        Ok(()) => status,
+        Err(e) => failure(rt, format_args!("powerup: {e}")),
     }
 }
 
