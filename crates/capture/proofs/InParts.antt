@@ -1,10 +1,11 @@
--- Laws of `agreeing` for captures that are compared part by part: after bytes that agree, place by place, and block by block.
+-- Laws of `agreeing` for captures that are compared part by part: after bytes that agree, in the first bytes, place by place, and block by block.
 use Rattle.std.proofs.Common.{◌≡◌, ℕ, zero, suc, ◌+◌, ◌-◌, ◌*◌, ◌/◌, ◌≤◌, ◌<◌, Bool, true, false, cond, ◌&&◌, List, [], ◌∷◌, refl, sym, ◌∙◌, arith, length, take, drop, take_all, fold, ◌==◌}
 use Rattle.std.specs.List.{zip}
 use Rattle.std.specs.Simd.{first_chunks}
 use Rattle.std.proofs.lemmas.List.{length-drop}
 use Rattle.std.proofs.Math.Nat.{div-mul-le_self, lt-div-mul-add}
 use lib.Dec.{leb, eqb}
+use Prim.Native.Nat.{min}
 use Prim.Native.Nat.compare
 use borrow.Author.Tests.{leb-true, leb-false, le-leb, lt-leb}
 use Rattle.capture.specs.Capture.{agreeing, same_bytes, same_places, same_blocks}
@@ -31,8 +32,40 @@ pub agreeing_in_rest : (new earlier : List ℕ) (n : ℕ) → n ≤ agreeing new
     → n + agreeing (take (length new - n) (drop n new)) (take (length earlier - n) (drop n earlier)) ≡ agreeing new earlier
 agreeing_in_rest new earlier n h = rw (rest_of n new, rest_of n earlier) (agreeing_after new earlier n h)
 
+-- In the first n bytes of both as many agree as in both, but at most n.
+agreeing_in_first : (n : ℕ) (new earlier : List ℕ) → agreeing (take n new) (take n earlier) ≡ min n (agreeing new earlier)
+unfolding agreeing
+agreeing_in_first zero new earlier = omega arith
+agreeing_in_first (suc n) [] earlier = omega arith
+agreeing_in_first (suc n) (b ∷ new) [] = omega arith
+agreeing_in_first (suc n) (b ∷ new) (e ∷ earlier) = at (eqb b e) (agreeing_in_first n new earlier)
+  where
+    at : (t : Bool) → agreeing (take n new) (take n earlier) ≡ min n (agreeing new earlier)
+        → cond t (suc (agreeing (take n new) (take n earlier))) 0 ≡ min (suc n) (cond t (suc (agreeing new earlier)) 0)
+    at true rest = omega (arith, rest)
+    at false rest = omega arith
+
+-- the same of the first 8 bytes of both
+pub in_first_word : (new earlier first first' : List ℕ) → first ≡ take 8 new → first' ≡ take 8 earlier → agreeing first first' ≡ min 8 (agreeing new earlier)
+in_first_word new earlier first first' p q = rw (p, q) (agreeing_in_first 8 new earlier)
+
+-- Where all but the last 8 bytes agree, the last 8 say how many do.
+pub with_last_word : (new earlier last last' : List ℕ) → length new ≡ length earlier → length new ≤ agreeing new earlier + 8 → 8 ≤ length new
+    → last ≡ drop (length new - 8) new → last' ≡ drop (length earlier - 8) earlier → length new - 8 + agreeing last last' ≡ agreeing new earlier
+with_last_word new earlier last last' long but_the_end some p q =
+    rw (p, q, sym long) (agreeing_after new earlier (length new - 8) (omega arith))
+
+-- If as many bytes agree as the new capture has, no more do.
+pub agreeing_all : (new earlier : List ℕ) → length new ≤ agreeing new earlier → agreeing new earlier ≡ length new
+agreeing_all new earlier h = omega (arith, within_both new earlier)
+
+-- Bytes after the end of the shorter capture change nothing.
+pub agreeing_cut : (new earlier : List ℕ)
+    → agreeing (take (min (length new) (length earlier)) new) (take (min (length new) (length earlier)) earlier) ≡ agreeing new earlier
+agreeing_cut new earlier = omega (arith, agreeing_in_first (min (length new) (length earlier)) new earlier, within_both new earlier)
+
 -- The agreeing bytes are the pairs from the front on that are the same.
-agreeing_by_place : (new earlier : List ℕ) → same_places (zip new earlier) ≡ agreeing new earlier
+pub agreeing_by_place : (new earlier : List ℕ) → same_places (zip new earlier) ≡ agreeing new earlier
 unfolding agreeing
 agreeing_by_place [] earlier = refl
 agreeing_by_place (b ∷ new) [] = refl

@@ -17,8 +17,8 @@ const ENDS: [(&str, &str); 9] = [
     ("", ""),
 ];
 
-// Captures are compared in blocks of 128 bytes, then of 8. These captures have 63 to 129 bytes: one has a byte more than the other, or they differ at
-// the first byte of a block, at the last, in the middle of a long block, or in the bytes after it.
+// Captures are compared in blocks of 64 bytes, then of 8. These captures have 63 to 129 bytes: one has a byte more than the other, or they differ at
+// the first byte of a block, at the last, or in the bytes after the last long block.
 const BLOCKS: [(&str, &str); 9] = [
     (
         "0123456789abcdef0123456789abcdef0123456789abcdef0123456789abcde",
