@@ -18,7 +18,7 @@ use Rattle.pretree.specs.declared.leg.Hook.{Hook}
 use Rattle.pretree.specs.Table.{to_side}
 use Rattle.pretree.specs.Walk.{Walk, step_at, remembered}
 use Rattle.pretree.specs.Leg.{Stands}
-use Rattle.pretree.specs.Push.{from_side, hook_of, HookInTable}
+use Rattle.pretree.specs.Push.{end_bits, from_side, hook_of, HookInTable}
 use Rattle.pretree.specs.Erased.{SameHook}
 use Rattle.pretree.proofs.Places.{bits_there}
 
@@ -39,10 +39,18 @@ hook_if b above path = if b then Some (record { above = above; side = from_side 
 abbrev pub hook_at : Walk → ℕ → Option Hook
 hook_at w width = hook_if (ltb w.bits width) w.above w.path
 
+-- the bits and the side at the end of a leg are those of the walk that is there
+module _ (l : Leg) (p : Walk) (stands : Stands l.at p) where
+  end_bits_are : end_bits l ≡ p.bits
+  end_bits_are = bits_there l.at p stands
+
+  end_side_is : side (end_bits l) l.at.path ≡ side_of (p.path % 2)
+  unfolding side
+  end_side_is = rw (end_bits_are, stands.path, shl-shr p.path p.bits)
+
 -- the code's hook is the same
 pub hook_is : (l : Leg) (w : Walk) (width : ℕ) → Stands l.at w → l.above ≡ w.above → hook_of l width ≡ hook_at w width
-unfolding side
-hook_is l w width st a = rw (bits_there l.at w st, st.path, shl-shr w.path w.bits, a)
+hook_is l w width st a = rw (end_side_is l w st, end_bits_are l w st, a)
 
 -- the hook at the last step that a walk remembers
 module _ (rows : ℕ → Row) (n room bits above path : ℕ) (fits : n ≤ room) where

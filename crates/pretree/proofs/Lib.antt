@@ -46,5 +46,6 @@ pub mod WholeTable
 -- the starred examples of document 01: a test for `Sound`; all examples hold
 pub mod SoundTest
 pub mod Starred
--- small laws for proofs of functions: the test of a side; what a result tells of damage
+-- small laws for proofs of functions: the test of a side; what a result tells of damage; the cases of `End`
 pub mod Tests
+pub mod EndTags

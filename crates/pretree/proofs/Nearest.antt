@@ -7,15 +7,15 @@ use native.Mathlib.Nat.{add-zero}
 use native.Mathlib.Omega.{arith}
 use lib.Dec.{eqb}
 use Rattle.std.specs.Prelude.{if◌then◌else◌, Ok, Err, Some, None, Option, Result}
-use Rattle.ordered.specs.Such.{Perhaps, such, no_such, its, only_if}
+use Rattle.ordered.specs.Such.{Perhaps, such, no_such, its, only_if, last_such}
 use Rattle.ordered.specs.Word.{right}
 use Rattle.ordered.specs.Tree.{Tree}
-use Rattle.ordered.specs.Way.{Way, Step, way, broken, following, down}
+use Rattle.ordered.specs.Way.{Way, Step, way, rows, broken, following, passing_equal, down}
 use Rattle.ordered.specs.Reading.{Found, word_in, passed_row, Reading, rows_of, broken_in, root_row, end_if, to_its_end, skipped_left, prev_by, nearest, gap_by, has, prev, next, gap}
 use Rattle.ordered.proofs.Rows.{rows_append, prev_rows, next_rows}
 use Rattle.pretree.specs.declared.Header.{Header}
 use Rattle.pretree.specs.declared.Answer.{Answer}
-use Rattle.pretree.specs.declared.Answer.TheVariants.{Distance, Damage}
+use Rattle.pretree.specs.declared.Answer.TheVariants.{Distance, Damage, NoSuchWord}
 use Rattle.pretree.specs.declared.Reply.{Reply}
 use Rattle.pretree.specs.declared.Row.{Row}
 use Rattle.pretree.specs.declared.seek.Seek.{Seek}
@@ -32,6 +32,7 @@ use Rattle.pretree.proofs.Checks.{right_header}
 use Rattle.pretree.proofs.Ended.{ends_in, way_end, way_rows}
 use Rattle.pretree.proofs.SeekTurn.{following_is}
 use Rattle.pretree.proofs.Sought.{bits_are}
+use Rattle.pretree.proofs.Found.{empty_way}
 use Rattle.pretree.proofs.WordWay.{by_way}
 
 -- the reply of a reading call, once the checks are passed
@@ -172,6 +173,11 @@ module _ (h : Header) (table : List ℕ) (k : ℕ) (fine : wrong_header h table 
         at_end
         ∙ ap (λ (end : Tree). by_found (only_if (λ f. eqb k (word_in f)) (root_row way_of_k.bits end))) (way_end _ _ _ _ _ w gone).end
         ∙ by_end e so (way_end _ _ _ _ _ w gone).end
+
+  -- in an empty set there is no nearest word
+  pub none_near : h.count ≡ 0 → answered h NoSuchWord 0 ≡ gap_reply h table k
+  unfolding gap_reply gap has prev next broken_in broken rows_of rows last_such
+  none_near empty = simp (fine, small, empty_way h table (following k) empty, empty_way h table (passing_equal k) empty)
 
 -- the reply of `gap`, by the way of its word, and where it is refused
 pub gap_way : {h : Header} {table : List ℕ} {k : ℕ} {s : Seek} {e : End} → WayEnds h table k s e

@@ -1,7 +1,7 @@
 -- Laws of parts, for `audit` and `list`: what a place and a row show, how their rows are counted, and how their words are written to the buffer.
 use Prim.Native.Nat.{ℕ, zero, suc, pred, ◌+◌, ◌*◌, ◌-◌, ◌/◌, ◌^◌, ◌≤◌, ◌<◌}
 use mathlib.Core.Path.{◌≡◌, refl, sym, ap, ◌∙◌, subst}
-use mathlib.Core.Bool.{Bool, true, false, ◌&&◌}
+use mathlib.Core.Bool.{Bool, true, false, not, ◌&&◌, true≢false}
 use mathlib.Core.List.{List, [], ◌∷◌, ◌++◌}
 use native.Mathlib.Nat.{suc-ne-zero, add-zero, add-suc, suc-add, le_refl, pow-suc}
 use native.Mathlib.Numerals.{add-one}
@@ -10,7 +10,7 @@ use lib.Dec.{ltb, leb, eqb}
 use lib.ListN.{length, set, length-set}
 use lib.Pow.{pow_pos, pow-lt, suc_ones, shl-shr}
 use lib.Seq.{sets}
-use borrow.Author.Tests.{ltb-true, eqb-true}
+use borrow.Author.Tests.{ltb-true, eqb-true, eqb-false}
 use Rattle.std.specs.Prelude.{if◌then◌else◌, Result, Ok, Err}
 use Rattle.ordered.specs.Word.{Side, left, right, bit_of}
 use Rattle.ordered.specs.Dictionary.{Entry}
@@ -155,17 +155,21 @@ module _ (rows : ℕ → Rows.Row) (n : ℕ) where
 
   -- ---- the loop of `rows_from`
 
-  -- The total: `passed` rows are counted so far, and the part ahead is that of the row at the place.
-  pub record Counting (total : Result ℕ Damaged) (most : ℕ) (at : Place) (passed : ℕ) : Type 0 where
+  -- The total: `passed` rows are counted so far, and the part ahead is that of the row at the place. `reached` counts that row too.
+  pub record Counting (total : Result ℕ Damaged) (most : ℕ) (at : Place) (reached : ℕ) : Type 0 where
     pub some : SomeWalkStands at
+    pub passed : ℕ
+    pub with_row : reached ≡ passed + 1
     pub sum : total ≡ after passed (rows_in (part_at rows n at))
     pub room : passed + 2 ^ suc some.walk.bits ≤ 2 ^ 34
     pub falls : at.mask ≤ most
 
-  pub counting_begins : (at : Place) → SomeWalkStands at → Counting (rows_in (part_at rows n at)) at.mask at 0
+  pub counting_begins : (at : Place) → SomeWalkStands at → Counting (rows_in (part_at rows n at)) at.mask at 1
   counting_begins at s =
       record {
         some = s;
+        passed = 0;
+        with_row = refl;
         sum = from_none (rows_in (part_at rows n at));
         room = let few : 2 ^ suc s.walk.bits < 2 ^ 34 = pow-lt {i = suc s.walk.bits} {j = 34} (omega (arith, s.stands.few)) in omega arith;
         falls = le_refl at.mask;
@@ -180,7 +184,7 @@ module _ (rows : ℕ → Rows.Row) (n : ℕ) where
     part_is = rw (place_bits at w st, place_path at w st, st.low)
 
     -- damage at the row
-    at_damage : row_end rows n at ≡ damage → rows_in (part_at rows n at) ≡ damage
+    pub at_damage : row_end rows n at ≡ damage → rows_in (part_at rows n at) ≡ damage
     at_damage is = go (ltb at.row n) (judges at (rows at.row)) refl refl is
       where
         go : (b c : Bool) → ltb at.row n ≡ b → judges at (rows at.row) ≡ c → (if b && c then Ok (rows at.row) else damage) ≡ damage
@@ -238,7 +242,10 @@ module _ (rows : ℕ → Rows.Row) (n : ℕ) where
                 ∙ rw (e, path, at_row.0)
                 (sym (linked_row (unfolded rows n m (w.path * 2 + bit_of s) (suc (rows at.row).entry.key)) (link (rows at.row) s) (rw at_row.0 at some)))
 
-  module _ {total : Result ℕ Damaged} {most : ℕ} {at : Place} {passed : ℕ} (c : Counting total most at passed) where
+  module _ {total : Result ℕ Damaged} {most : ℕ} {at : Place} {reached : ℕ} (c : Counting total most at reached) where
+    abbrev passed : ℕ
+    passed = c.passed
+
     abbrev w : Walk
     w = c.some.walk
 
@@ -251,6 +258,19 @@ module _ (rows : ℕ → Rows.Row) (n : ℕ) where
     module _ {r : Rows.Row} (is : row_end rows n at ≡ Ok r) where
       sum_so : total ≡ after passed (both (rows_in (below rows n w.bits at.row left)) (rows_in (below rows n w.bits at.row right)))
       sum_so = c.sum ∙ ap (after passed) (at_parts at w st r is)
+
+      -- below a row with a link some walk is on either side
+      pub side_place_stands : not (eqb r.left 0 && eqb r.right 0) ≡ true → (s : Side) → SomeWalkStands (below_place at r s)
+      side_place_stands has s = go (eqb r.left 0) (eqb r.right 0) refl refl has
+        where
+          by : (t : Side) → (link r t ≡ 0 → ⊥) → SomeWalkStands (below_place at r s)
+          by t some = let bits = deeper_bits at w st r is t some in
+              record { walk = _; stands = below_stands at w st bits.0 bits.1 r s w refl refl }
+
+          go : (a b : Bool) → eqb r.left 0 ≡ a → eqb r.right 0 ≡ b → not (a && b) ≡ true → SomeWalkStands (below_place at r s)
+          go false b there other h = by left (eqb-false r.left 0 there)
+          go true false empty there h = by right (eqb-false r.right 0 there)
+          go true true empty nor h = absurd (true≢false (sym h))
 
       pub side_some : (s : Side) → (link r s ≡ 0 → ⊥) → SomeWalkStands (below_place at r s)
       side_some s some = record { walk = _; stands = side_stands at w st r is s some }
@@ -267,11 +287,11 @@ module _ (rows : ℕ → Rows.Row) (n : ℕ) where
         pub left_is : rows_in (below rows n w.bits at.row left) ≡ Ok lefts
         pub sum : counted ≡ passed + 1 + lefts
 
-      pub lefts_none : r.left ≡ 0 → Lefts (passed + 1)
-      lefts_none e = record { lefts = 0; left_is = no_side at w st r is left e; sum = omega arith }
+      pub lefts_none : r.left ≡ 0 → Lefts reached
+      lefts_none e = record { lefts = 0; left_is = no_side at w st r is left e; sum = omega (arith, c.with_row) }
 
-      pub lefts_some : (r.left ≡ 0 → ⊥) → (lefts : ℕ) → rows_in (part_at rows n (below_place at r left)) ≡ Ok lefts → Lefts (passed + 1 + lefts)
-      lefts_some some lefts e = record { lefts = lefts; left_is = sym (side_shows at w st r is left some) ∙ e; sum = refl }
+      pub lefts_some : (r.left ≡ 0 → ⊥) → (lefts : ℕ) → rows_in (part_at rows n (below_place at r left)) ≡ Ok lefts → Lefts (reached + lefts)
+      lefts_some some lefts e = record { lefts = lefts; left_is = sym (side_shows at w st r is left some) ∙ e; sum = omega (arith, c.with_row) }
 
       module _ {counted : ℕ} (l : Lefts counted) where
         left_few : l.lefts < 2 ^ w.bits
@@ -287,10 +307,12 @@ module _ (rows : ℕ → Rows.Row) (n : ℕ) where
         pub counting_ends : r.right ≡ 0 → total ≡ Ok counted
         counting_ends e = sum_so ∙ rw (l.left_is, no_side at w st r is right e) (ap Ok (omega (arith, l.sum)))
 
-        pub counting_goes_on : (r.right ≡ 0 → ⊥) → Counting total most (below_place at r right) counted
+        pub counting_goes_on : (r.right ≡ 0 → ⊥) → Counting total most (below_place at r right) (counted + 1)
         counting_goes_on some =
             record {
               some = record { walk = _; stands = side_stands at w st r is right some };
+              passed = counted;
+              with_row = refl;
               sum = sum_so ∙ rw (l.left_is, sym (side_shows at w st r is right some)) (more (rows_in (part_at rows n (below_place at r right))));
               room = let deeper : (m : ℕ) × (w.bits ≡ suc m) = deeper_bits at w st r is right some in
                   let halves : 2 ^ suc (pred w.bits) ≡ 2 ^ w.bits = ap (λ (b : ℕ). 2 ^ suc (pred b)) deeper.1 ∙ sym (ap (λ (b : ℕ). 2 ^ b) deeper.1) in

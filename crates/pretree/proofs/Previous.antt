@@ -10,7 +10,7 @@ use lib.Dec.{ltb, eqb}
 use mir.Val.{bool_byte}
 use lib.Pow.{split, pow_pos, pow_mono, pow-add, shr_lt}
 use borrow.Author.Tests.{lt-ltb, le-ltb, eq-eqb, ne_eqb}
-use Rattle.std.specs.Prelude.{if◌then◌else◌, is_some, Ok, Some, None, Option}
+use Rattle.std.specs.Prelude.{if◌then◌else◌, is_some, is_err, Ok, Some, None, Option}
 use Rattle.ordered.specs.Word.{left, right, bit_of, side_of, is_side}
 use Rattle.ordered.specs.Tree.{Tree}
 use Rattle.ordered.specs.Way.{way, down}
@@ -30,8 +30,13 @@ use Rattle.pretree.specs.Leg.{Stands, End, damage}
 use Rattle.pretree.specs.Seek.{row_of, above_of, bits_left_by, SeekEnds, Tells, WayEnds, Refused, by_header, by_word, by_damage}
 use Rattle.pretree.specs.Prev.{rows_to, left_if_right, left_place}
 use Rattle.pretree.proofs.Checks.{right_header}
+use Rattle.pretree.proofs.Damaged.{not_damage}
 use Rattle.pretree.proofs.Neighbours.{prev_at}
 use Rattle.pretree.proofs.Sought.{bits_are}
+
+-- the ends that are left where the code has tested for damage
+pub spared : (e : End) → is_err e ≡ false → e ≡ damage → ⊥
+spared e = not_damage e
 
 -- the end of a way is at most one row more than it passed
 pub rows_to_few : (row : Option Row) (n : ℕ) → n ≤ 32 → rows_to row n ≤ 33

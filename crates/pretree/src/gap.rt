@@ -51,6 +51,8 @@ impl Header {
                     Answer::Distance(0),
                     self.width - bits_of(s.mask) + 1,
                 ),
+                // an empty set has no nearest word, so `prev` and `next` are not asked
+                None if self.count == 0 => self.answered(Answer::NoSuchWord, 0),
                 _ => rows.nearest(word),
             },
             Err(answer) => self.refused(answer),

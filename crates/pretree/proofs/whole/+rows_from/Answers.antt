@@ -34,9 +34,9 @@ returns-in_err-rows t c =
     let p = err_from_is_err_and c.from_residual-in_err-rows.result c.from_residual-in_err-rows.ensures.1 in
     rw p.1 (sym (parts.left_damaged _ _ c.loop-row.invariant is c.if-row-ne-NONE.true _ (sym (rw c.below.ensures at c.rows_from.ensures) ∙ c.in_err-rows.was)))
 
-pub overflow_add-rows-then-row-ne-NONE : goal.overflow_add-rows-then-row-ne-NONE
-overflow_add-rows-then-row-ne-NONE t c =
-    let is = row_so t (goal.at.overflow_add-rows-then-row-ne-NONE t c).In_ok-row in
+pub overflow_add-rows : goal.overflow_add-rows
+overflow_add-rows t c =
+    let is = row_so t (goal.at.overflow_add-rows t c).In_ok-row in
     let inv = c.loop-row.invariant in
     let few = parts.counted_few _ _ inv is (parts.lefts_some _ _ inv is c.if-row-ne-NONE.true _ (sym (rw c.below.ensures at c.rows_from.ensures) ∙ c.in_ok-rows.was)) in
     Fits-bits 64 tt (omega arith)
@@ -51,6 +51,13 @@ lefts t c is =
           rw w.rows-is (parts.lefts_some _ _ inv is w.if-row-ne-NONE.true _ (sym (rw w.below.ensures at w.rows_from.ensures) ∙ w.in_ok-rows.was))
       | else-row-ne-NONE w ↦ rw w.rows-is (parts.lefts_none _ _ inv is w.if-row-ne-NONE.false)
     ]
+
+pub overflow_add-rows-in-loop-row : goal.overflow_add-rows-in-loop-row
+overflow_add-rows-in-loop-row t c =
+    let at = goal.at.overflow_add-rows-in-loop-row t c in
+    let is = row_so t at.In_ok-row in
+    let few = parts.counted_few _ _ c.loop-row.invariant is (lefts t at.Joined-row-ne-NONE is) in
+    Fits-bits 64 tt (omega arith)
 
 pub returns-then-row-eq-NONE : goal.returns-then-row-eq-NONE
 returns-then-row-eq-NONE t c =
