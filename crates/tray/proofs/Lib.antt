@@ -10,8 +10,10 @@ pub mod Procedures
 pub mod Trays
 -- The contract of `take_sample` is `Sampled`.
 pub mod Contracts
--- Used by the proofs of the functions: what a counted sample has passed (`verdict`, `after`, `repetition_alarm`).
+-- Used by the proofs of `checked` and `repetition_alarm`. Also what a counted sample has passed (`passed`).
 mod Checks
+-- A law of the tags by which a `match` tells variants apart.
+pub mod Tags
 -- Tests by computation, on records that no samples leave.
 pub mod Examples
 

@@ -82,6 +82,9 @@ pub fn absent(sample: Sample) -> Verdict
 }
 
 impl Seat {
+    // "a run stays at 4,294,967,295 once it is there"
+    pub const TOP: u32 = 4294967295;
+
     pub fn fresh() -> Self
         ensures { result ≡ fresh }
     {

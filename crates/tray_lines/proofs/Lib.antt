@@ -4,3 +4,5 @@
 pub mod Promise
 -- what a line means (`read_line`)
 mod Lines
+-- the answer numbers (`From<Verdict> for ReplyFields`)
+mod Numbers

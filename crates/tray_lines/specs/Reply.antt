@@ -1,5 +1,6 @@
--- The fields of a reply line, and the tray after a line. Both alarms are 0 with a refusal.
-use Rattle.std.specs.Prelude.{ℕ, List, [], ◌∷◌, ◌++◌, false, Option, Some, None, Ok, Err}
+-- The fields of a reply line, its bytes, and the tray after a line. Both alarms are 0 with a refusal.
+use Rattle.std.specs.Prelude.{ℕ, Bool, cond, List, [], ◌∷◌, ◌++◌, false, Option, Some, None, Ok, Err}
+use Rattle.std.specs.Fmt.{decimal}
 use Rattle.tray.specs.declared.Seat.{Seat}
 use Rattle.tray.specs.declared.Sample.{Sample}
 use Rattle.tray.specs.declared.Alarms.{Alarms}
@@ -18,6 +19,15 @@ fields_of (Err refusal) = record { answer = number_of (Err refusal); alarms = no
 
 abbrev pub not_read : ReplyFields
 not_read = record { answer = 9; alarms = no_alarms }
+
+-- the digit 0 or 1
+abbrev pub alarm_byte : Bool → ℕ
+alarm_byte alarm = cond alarm 49 48
+
+-- A reply line as bytes: line number, answer number, repetition alarm and proportion alarm, with a byte 9 between two fields and a byte 10 at the end.
+unfoldable pub reply_line : ℕ → ReplyFields → List ℕ
+reply_line line fields =
+    decimal line ++ 9 ∷ decimal fields.answer ++ 9 ∷ alarm_byte fields.alarms.repetition ∷ 9 ∷ alarm_byte fields.alarms.proportion ∷ 10 ∷ []
 
 -- the sample of a line, with the width and the cutoffs of the program's arguments
 abbrev pub sample_of : Sample → ℕ → Sample

@@ -4,37 +4,25 @@ ghost use Rattle.std.specs.Prelude.{◌≡◌};
 ghost use Rattle.tray_lines.specs.Reply.{fields_of, fields_on, tray_on};
 
 use crate::parse::Line;
-use std::fmt;
 use tray::{Alarms, Sample, Seat, Verdict};
 
 // The fields of a reply line after its line number. `answer` is the number that the line shows: 9, for a line that is not read, is of no `Verdict`.
+// It is a byte, so the length of a reply is bounded.
 #[derive(Clone, Copy, Debug, PartialEq, Eq)]
 pub struct ReplyFields {
-    pub answer: u32,
+    pub answer: u8,
     pub alarms: Alarms,
 }
 
 impl From<Verdict> for ReplyFields {
     ghost from_gives = { λ verdict fields. fields ≡ fields_of verdict };
 
+    #[tactic(auto, using(crate::proofs::Numbers::at_most_14))]
     fn from(verdict: Verdict) -> Self {
         Self {
-            answer: tray::number(verdict),
+            answer: tray::number(verdict) as u8,
             alarms: verdict.unwrap_or_default(),
         }
-    }
-}
-
-// The answer number, the repetition alarm and the proportion alarm, separated by tabs.
-impl fmt::Display for ReplyFields {
-    fn fmt<W: fmt::Write>(&self, f: &mut fmt::Formatter<W>) -> fmt::Result {
-        write!(
-            f,
-            "{}\t{}\t{}",
-            self.answer,
-            u8::from(self.alarms.repetition),
-            u8::from(self.alarms.proportion)
-        )
     }
 }
 

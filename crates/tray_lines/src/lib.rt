@@ -5,6 +5,7 @@
 
 mod answer;
 mod parse;
+mod put;
 mod serve;
 
 use console::failure;

@@ -1,14 +1,18 @@
 // Answering all lines: "A line ends with byte 10, or at the end of input if bytes are left."
 
+ghost use Rattle.std.specs.Prelude.{◌≡◌, ◌+◌, ◌≤◌, []};
+ghost use Rattle.arrayvec.specs.ArrayVec.{array_vec_len};
+
 use crate::answer::answer_line;
 use crate::parse::read_line;
+use crate::put::{Replies, put_reply};
 use arrayvec::ArrayVec;
 use console::hold;
 use std::io;
 use std::io::{Read, Write};
 use tray::{Sample, Seat};
 
-// What is kept from one read to the next.
+// What is kept from one read to the next. There is always room for one more reply.
 #[derive(Drop)]
 struct Session {
     settings: Sample,
@@ -18,7 +22,8 @@ struct Session {
     line: ArrayVec<u8, 65>,
 
     lines: u64,
-    replies: ArrayVec<u8, 4096>,
+    replies: Replies,
+    ghost room: { array_vec_len replies + 32 ≤ 4096 },
 }
 
 impl Session {
@@ -28,7 +33,7 @@ impl Session {
             tray: [Seat::fresh(); 64],
             line: ArrayVec::new(),
             lines: 0,
-            replies: ArrayVec::new(),
+            replies: Replies::new(),
         }
     }
 
@@ -46,24 +51,27 @@ impl Session {
         Ok(())
     }
 
-    // Answers the line. A reply has at most 28 bytes and always finds room: the replies are written once there might be none for the next.
+    // Answers the line. The replies are written once there might be no room for the next.
     fn answer<W: Write>(&mut self, writer: &mut W) -> io::Result<()> {
         self.lines = self.lines.saturating_add(1);
         let line = read_line(&self.line);
         self.line.clear();
         let fields = answer_line(&mut self.tray, line, self.settings);
-        writeln!(self.replies, "{}\t{fields}", self.lines)?;
+        put_reply(&mut self.replies, self.lines, fields);
         if self.replies.remaining_capacity() < 32 {
-            self.write_replies(writer)?;
+            write_replies(&mut self.replies, writer)?;
         }
         Ok(())
     }
+}
 
-    fn write_replies<W: Write>(&mut self, writer: &mut W) -> io::Result<()> {
-        writer.write_all(&self.replies)?;
-        self.replies.clear();
-        Ok(())
-    }
+// No reply is left, even if the write fails: the program then ends.
+fn write_replies<W: Write>(replies: &mut Replies, writer: &mut W) -> io::Result<()>
+    ensures { replies.new.items ≡ [] }
+{
+    let written = writer.write_all(replies);
+    replies.clear();
+    written
 }
 
 // Answers every line. If a read fails, the replies to the lines before it are written all the same.
@@ -78,16 +86,15 @@ pub(crate) fn serve<R: Read, W: Write>(
     // A proved loop has to end, and nothing says that the input does. No run uses up this many reads.
     for _ in 0..u64::MAX {
         match reader.read(&mut input) {
-            Ok(0) => break,
+            Ok(0) if session.line.is_empty() => break,
+            // A terminal can give more after an end of input, so the program reads on.
+            Ok(0) => session.answer(writer)?,
             Ok(n) => session.feed(&input[..n], writer)?,
             Err(e) => {
-                session.write_replies(writer)?;
+                write_replies(&mut session.replies, writer)?;
                 return Err(e);
             }
         }
     }
-    if !session.line.is_empty() {
-        session.answer(writer)?;
-    }
-    session.write_replies(writer)
+    write_replies(&mut session.replies, writer)
 }
