@@ -88,7 +88,8 @@ impl Runner {
         }
         match setting_of(line) {
             Some(setting) => {
-                let values = read_numbers(line)?;
+                let mut values = ArrayVec::new();
+                read_numbers(line, &mut values)?;
                 self.set(setting, values.as_slice())
             }
             None => {

@@ -32,6 +32,16 @@ impl Output {
         }
     }
 
+    // A changed word of the table; `put_key` writes one of the buffer. Both take their numbers by value, because a loop that lends its count to the
+    // text would store the count at each turn.
+    fn put_word(&mut self, place: usize, word: u32) {
+        self.put_line(format_args!("word\t{place}\t{word}"));
+    }
+
+    fn put_key(&mut self, place: usize, word: u32) {
+        self.put_line(format_args!("key\t{place}\t{word}"));
+    }
+
     // Returns the first failure.
     pub(crate) fn flush(&mut self) -> io::Result<()> {
         self.written?;
@@ -58,12 +68,12 @@ pub(crate) fn outcome(
     out.put_line(format_args!("header\t{}\t{}", header.width, header.count));
     for (place, (old, new)) in before.iter().zip(after).enumerate() {
         if old != new {
-            out.put_line(format_args!("word\t{place}\t{new}"));
+            out.put_word(place, *new);
         }
     }
     for (place, word) in buffer.iter().enumerate() {
         if *word != BLANK {
-            out.put_line(format_args!("key\t{place}\t{word}"));
+            out.put_key(place, *word);
         }
     }
 }

@@ -32,13 +32,13 @@ pub(crate) fn setting_of(line: &[u8]) -> Option<Setting> {
     }
 }
 
-// The numbers after a line's first word. A line of 256 bytes has no more than 126.
-pub(crate) fn read_numbers(line: &[u8]) -> Option<ArrayVec<u32, 128>> {
-    let mut values = ArrayVec::new();
+// Reads the numbers after a line's first word into an empty vector; `None` where one of them is not read. A line of 256 bytes has no more than 126.
+// The vector is lent, because it would be copied twice if it was returned.
+pub(crate) fn read_numbers(line: &[u8], values: &mut ArrayVec<u32, 128>) -> Option<()> {
     for field in line.split(|byte| *byte == b'\t').skip(1) {
         values.try_push(read_number(field)?).ok()?;
     }
-    Some(values)
+    Some(())
 }
 
 impl Runner {
