@@ -137,3 +137,8 @@ after_step {left = left} l a =
       feeds = λ s keeps. feeds_then a.part (l.feeds s keeps) a.feeds;
       lines = omega (arith, a.lines, l.lines, length-append l.part a.part);
     }
+
+-- where the loop ends it has advanced
+pub loop_advances :
+    {piece rest : List ℕ} {before now : CodeSession} → (l : FeedLoop piece rest before now) → (length l.part ≡ 0 → ⊥) → Advances piece rest [] before now
+loop_advances l h = record { part = l.part; whole = l.whole; onward = omega arith; feeds = l.feeds; lines = l.lines }

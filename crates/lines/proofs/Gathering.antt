@@ -1,5 +1,5 @@
 -- Where lines end, and what is held of a line that has not ended.
-use Prim.Native.Nat.{ℕ, zero, suc, ◌≤◌, ◌<◌}
+use Prim.Native.Nat.{ℕ, zero, suc, ◌+◌, ◌-◌, ◌≤◌, ◌<◌, min}
 use mathlib.Core.Path.{◌≡◌, refl, sym, ap, ◌∙◌}
 use mathlib.Core.Bool.{true, false}
 use mathlib.Core.List.{List, [], ◌∷◌, ◌++◌, append_assoc, append-nil}
@@ -15,6 +15,7 @@ use Rattle.lines.specs.Gather.{until_end, HoldsLine}
 use Rattle.std.proofs.lemmas.Bool.{cases_Bool}
 use Rattle.lines.proofs.Finding.{until_first, until_later}
 use Rattle.lines.proofs.Heads.{long_unread}
+use Rattle.lines.proofs.Puts.{Put}
 use Rattle.lines.proofs.Pieces.{ended_later, unended_later}
 
 -- an input in which no line ends
@@ -56,3 +57,20 @@ parse_gathered line h part = ap parse (held_more line h part) ∙ parse_held (li
 -- from that part alone, if nothing was held
 pub parse_whole : {held : List ℕ} (line : List ℕ) → HoldsLine held line → held ≡ [] → (part : List ℕ) → parse part ≡ parse (line ++ part)
 parse_whole line h e part = sym (parse_held part) ∙ (rw e at (parse_gathered line h part))
+
+-- once as many bytes of a part are put after `count` bytes as the buffer has room for, all that fit of it are put
+pub all_copied :
+    (part : List ℕ) {before buffer : List ℕ} {count most i : ℕ} → Put before count (take i part) buffer (count + i) → i ≤ most
+    → most ≡ min (length part) (length before - count) → most ≤ i
+    → Put before count (take (length before - count) part) buffer (count + most)
+all_copied part {before} {buffer} {count} {most} {i} put within some h =
+    let e : take i part ≡ take (length before - count) part =
+    ⊎_elim
+    (λ (t : ltb (length before - count) (length part) ≡ true).
+    let q : i ≡ length before - count = omega (arith, ltb-true) in ap (λ (n : ℕ). take n part) q)
+    (λ (f : ltb (length before - count) (length part) ≡ false).
+    let q : length part ≤ i = omega (arith, ltb-false) in
+    let r : length part ≤ length before - count = ltb-false _ _ f in
+    take_all i part q ∙ sym (take_all (length before - count) part r))
+    (cases_Bool (ltb (length before - count) (length part))) in
+    record { content = rw e at put.content; place = rw (← e) (omega (arith, put.place)) }

@@ -8,10 +8,12 @@ use native.Mathlib.Omega.{arith}
 use borrow.Author.Tests.{eq-eqb, ne_eqb, eqb-true, eqb-false, lt-ltb, le-ltb}
 use lib.Dec.{T, ltb, eqb, ltb→lt}
 use lib.ListN.{length, get_or, take, drop}
-use Rattle.std.specs.Prelude.{if◌then◌else◌, Option, None}
+use Rattle.std.specs.Prelude.{if◌then◌else◌, Option, None, Some}
+use Rattle.std.specs.Option.{option_or}
 use Rattle.std.specs.Int.{from_be_bytes, w32}
+use Rattle.pretree.specs.declared.Call.{Call}
 use Rattle.lines.specs.Text.{bytes}
-use Rattle.lines.specs.Line.{parse, after_word, Form, with_number, with_two_numbers, alone, operations, first_read}
+use Rattle.lines.specs.Line.{parse, after_word, Form, with_number, with_two_numbers, alone, operations, first_read, if_nothing}
 use Rattle.lines.specs.Head.{packed, head_of, after_head, by_head}
 use Rattle.std.proofs.lemmas.Bool.{cases_Bool}
 use Rattle.lines.proofs.Tests.{both}
@@ -138,3 +140,17 @@ packed_head (a ∷ []) l = absurd (omega arith)
 packed_head (a ∷ b ∷ []) l = absurd (omega arith)
 packed_head (a ∷ b ∷ c ∷ []) l = absurd (omega arith)
 packed_head (a ∷ b ∷ c ∷ d ∷ rest) l = omega arith
+
+-- if no other form fits
+pub only : {line : Option Call} (p : Option Call) → line ≡ p → line ≡ option_or p None
+only None h = h
+only (Some call) h = h
+
+-- a call that has nothing after its word
+pub nothing_behind : (call : Call) (rest : List ℕ) → length rest ≡ 0 → if_nothing call rest ≡ Some call
+nothing_behind call [] h = refl
+nothing_behind call (x ∷ rest) h = absurd (omega arith)
+
+pub more_behind : (call : Call) (rest : List ℕ) → (length rest ≡ 0 → ⊥) → if_nothing call rest ≡ None
+more_behind call [] h = absurd (h refl)
+more_behind call (x ∷ rest) h = refl

@@ -8,9 +8,12 @@ pub mod Examples
 -- reading a line: `parse`, `by_head` and the functions that it calls; `add`, and `answers_nine`
 pub mod Heads
 pub mod TwoNumbers
--- answering a line: `answer`
+-- answering a line: `answer`; laws on calls that only read, and on answers without a key or a serial
+pub mod ReadOnly
+pub mod Keys
 pub mod Running
--- writing a reply: `number`, `put_reply`, and `reads_back`; `put_keys`
+-- writing a reply: `number`, `put_reply`, and `reads_back`; `put_keys`; a text put into a buffer at a place
+pub mod Puts
 pub mod Digits
 pub mod KeyLines
 -- taking in a piece: `step` and `feed`

@@ -1,16 +1,19 @@
 -- What the loops over standard input keep: from the start on, the memory keeps the session after the input taken in so far.
-use Prim.Native.Nat.{ℕ, zero, suc, ◌+◌, ◌≤◌, ◌<◌}
+use Prim.Native.Nat.{ℕ, zero, suc, ◌+◌, ◌*◌, ◌^◌, ◌≤◌, ◌<◌}
 use mathlib.Core.Path.{◌≡◌, refl, ap, ◌∙◌}
 use mathlib.Core.Bool.{false≢true}
-use mathlib.Core.List.{List, [], ◌∷◌, ◌++◌, append_assoc}
+use mathlib.Core.List.{List, [], ◌∷◌, ◌++◌, append_assoc, append-nil}
+use mathlib.Core.Logic.{inl, inr}
 use native.Mathlib.Omega.{arith}
 use lib.ListN.{length, take, length-take, length-append}
-use lib.Seq.{take-append_seam}
-use Rattle.std.specs.Prelude.{Result, Ok, Err, IsOk, IsErr}
+use lib.Seq.{take-append_seam, take-length, length-take-le}
+use Rattle.std.specs.Prelude.{Option, Result, Ok, Err, IsOk, IsErr}
+use Rattle.std.specs.Io.KnownBytes.{Consumes, IsAtEnd}
+use Rattle.std.proofs.KnownBytes.{Consumes-nil, Consumes-trans}
 use Rattle.lines.specs.declared.session.Session.{Session as CodeSession}
 use Rattle.lines.specs.Output.{State, Session, start_session, session_after, written_for_piece, written_at_end, ended, unended, state_after}
 use Rattle.lines.specs.Answering.{Keeps, Advances}
-use Rattle.lines.specs.Serving.{Reached, IsOutput, piece_of, Takes}
+use Rattle.lines.specs.Serving.{Reached, IsOutput, piece_of, Takes, session_at_end, TakesInAll}
 use Rattle.lines.proofs.Pieces.{session_append, written_by_end}
 
 -- at the end of input, what is written for the last piece is what is written at the end
@@ -25,12 +28,20 @@ written_at_end_is {s} {k} input keeps = by_cases s.line refl (length k.held.item
     by_cases (b ∷ line) e zero h = absurd (omega (arith, rw e at h))
     by_cases (b ∷ line) e (suc held) h = written_by_end s b line e
 
+-- and the session after that piece is the session at the end
+pub session_at_end_is :
+    {s : Session} {k : CodeSession} (input : List ℕ) → Keeps s k → session_after s (piece_of 0 (length k.held.items) input) ≡ session_at_end s
+unfolding piece_of session_after session_at_end state_after ended unended
+session_at_end_is {s} {k} input keeps = by_cases s.line refl (length k.held.items) (ap (λ (l : List ℕ). length l) keeps.held)
+  where
+    by_cases : (line : List ℕ) → s.line ≡ line → (held : ℕ) → held ≡ length (take 65 s.line) → session_after s (piece_of 0 held input) ≡ session_at_end s
+    by_cases [] e zero h = rw e
+    by_cases [] e (suc held) h = absurd (omega (arith, rw e at h))
+    by_cases (b ∷ line) e zero h = absurd (omega (arith, rw e at h))
+    by_cases (b ∷ line) e (suc held) h = rw e
+
 pub no_lines : {k : CodeSession} → Keeps start_session k → k.lines ≡ 0
 no_lines keeps = ap (λ (s : State). s.lines) keeps.state
-
-pub reached_start : {k : CodeSession} → Keeps start_session k → Reached k
-unfolding session_after state_after ended unended
-reached_start keeps = record { input = []; keeps = keeps }
 
 -- one more piece leads from one reached session to another
 pub reached_after : {before after : CodeSession} (piece : List ℕ) → Reached before → ((s : Session) → Keeps s before → Keeps (session_after s piece) after) → Reached after
@@ -101,3 +112,57 @@ module _ (input : List ℕ) where
   piece_within zero zero some = omega arith
   piece_within zero (suc held) some = omega arith
   piece_within (suc count) held some = omega (arith, length-take (suc count) input)
+
+-- a piece to which every reply was written was taken in whole
+all_taken :
+    {piece : List ℕ} {before after : CodeSession} {written : Type 0} → Takes piece before after written → written
+    → (s : Session) → Keeps s before → Keeps (session_after s piece) after
+all_taken {piece} t w s keeps = rw (t.all w, take-length piece) at t.keeps s keeps
+
+-- The invariant of the loop of `serve`: the reader gave `input`, a byte or more in each turn, and the session took in all of it. It has no more
+-- lines than the turns so far can have brought.
+pub record ServeLoop (left_before left_now : Option (List ℕ)) (now : CodeSession) (turn : ℕ) : Type 0 where
+  pub input : List ℕ
+  pub consumed : Consumes left_before left_now input
+  pub keeps : Keeps (session_after start_session input) now
+  pub turns : turn ≤ length input
+  pub lines : now.lines ≤ 65536 * turn
+
+pub serve_start : (left : Option (List ℕ)) {k : CodeSession} → Keeps start_session k → ServeLoop left left k 0
+unfolding session_after state_after ended unended
+serve_start left keeps =
+    record { input = []; consumed = Consumes-nil left; keeps = keeps; turns = omega arith; lines = omega (arith, no_lines keeps) }
+
+module _
+    {left_before left_now left_after : Option (List ℕ)} {now after : CodeSession} {turn : ℕ} (l : ServeLoop left_before left_now now turn) (input : List ℕ)
+    {count : ℕ} (read : Consumes left_now left_after (take count input)) {written : Type 0}
+    (t : Takes (piece_of count (length now.held.items) input) now after written) (w : written)
+  where
+    -- one more turn
+    pub after_turn : (count ≡ 0 → ⊥) → count ≤ length input → length input ≡ 65536 → ServeLoop left_before left_after after (turn + 1)
+    after_turn some within size =
+        let part = take count input in
+        let long : length part ≡ count = length-take-le count input within in
+        record {
+          input = l.input ++ part;
+          consumed = Consumes-trans _ _ _ l.input part l.consumed read;
+          keeps = rw (session_append, piece_read input count (length now.held.items) some) (all_taken t w (session_after start_session l.input) l.keeps);
+          turns = omega (arith, l.turns, length-append l.input part, long, some);
+          lines = omega (arith, l.lines, t.lines, piece_within input count (length now.held.items) (omega (arith, size)), size);
+        }
+
+    -- the turn at the end of input
+    pub at_end : count ≡ 0 → IsAtEnd left_after → TakesInAll left_before left_after after
+    at_end none end =
+        let whole = all_taken t w (session_after start_session l.input) l.keeps in
+        record {
+          input = l.input;
+          consumed = rw (none, append-nil) at (Consumes-trans _ _ _ l.input (take count input) l.consumed read);
+          end = inl (end, rw (none, session_at_end_is input l.keeps) at whole);
+        }
+
+-- after the last turn
+pub no_turn_left :
+    {left_before left_now : Option (List ℕ)} {now : CodeSession} {turn : ℕ} → ServeLoop left_before left_now now turn → 2 ^ 47 ≤ turn
+    → TakesInAll left_before left_now now
+no_turn_left l many = record { input = l.input; consumed = l.consumed; end = inr (omega (arith, l.turns, many), l.keeps) }

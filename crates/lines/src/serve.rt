@@ -1,12 +1,14 @@
 // The line program over standard input and standard output: large reads, and one write for each, or more if `out` is full.
-// No contract says what a read puts into `input`, or what a write does. Everything between them has a contract: the start, the piece after
-// a read, the session after a piece, and the bytes that are handed to a write. How the input is cut into pieces does not matter: proofs/Pieces.antt.
+// No contract says what standard input gives, or what a write does. Everything between them has a contract: the start, the piece after a read,
+// the session after a piece and at the end, and the bytes that are handed to a write. How the input is cut into pieces does not matter:
+// proofs/Pieces.antt.
 
-ghost use Rattle.std.specs.Prelude.{◌≡◌, ◌+◌, ◌<◌, ◌≤◌, ◌^◌, length, IfOk, IsOk};
+ghost use Rattle.std.specs.Prelude.{◌≡◌, ◌+◌, ◌<◌, ◌≤◌, ◌^◌, length, IfOk, IsOk, OnOk};
+ghost use Rattle.std.specs.Io.KnownBytes.{ReadConsumes};
 ghost use Rattle.arrayvec.specs.ArrayVec.{array_vec_len};
 ghost use Rattle.lines.specs.Output.{start_session};
 ghost use Rattle.lines.specs.Answering.{Keeps};
-ghost use Rattle.lines.specs.Serving.{Reached, IsOutput, piece_of, Takes};
+ghost use Rattle.lines.specs.Serving.{Reached, IsOutput, piece_of, Takes, TakesInAll};
 
 use crate::session::Session;
 use console::failure;
@@ -47,6 +49,7 @@ pub fn run<R: Input + Print + Eprint>(rt: &R) -> ExitCode {
     }
 }
 
+// Without an error, the whole input was taken in: the loop stopped at the end of input, and no error of `take_in` was forgotten.
 // A proved loop has to end, and nothing says that the input does. So there is a last turn, which no run comes to: at 65,536 bytes a turn it is
 // after 2^63 bytes.
 fn serve<R: Read, W: Write>(
@@ -56,6 +59,7 @@ fn serve<R: Read, W: Write>(
     input: &mut [u8; 65536],
 ) -> Result<(), ServeError>
     requires { Keeps start_session session.old }
+    ensures { OnOk result (TakesInAll (R.remaining reader.old) (R.remaining reader.new) session.new) }
 {
     for _turn in 0..140737488355328u64 {
         let count = read(reader, input)?;
@@ -72,6 +76,7 @@ fn serve<R: Read, W: Write>(
 fn read<R: Read>(reader: &mut R, input: &mut [u8]) -> Result<usize, ServeError>
     ensures count { IfOk result (λ n. n ≤ length input.new) }
     ensures size { length input.new ≡ length input.old }
+    ensures bytes { ReadConsumes (R.remaining reader.old) (R.remaining reader.new) result input.new }
 {
     reader.read(input).map_err(ServeError::Read)
 }

@@ -8,7 +8,7 @@ ghost use Rattle.lines.specs.Answering.{state_of, Answers, Keeps, Advances};
 
 use crate::answer::run;
 use crate::parse::parse;
-use crate::put::{Output, put_keys, put_reply};
+use crate::put::{LineText, Output, put_answer, put_reply};
 use crate::reply::{not_read, reply_fields};
 use arrayvec::ArrayVec;
 use console::{hold, place_of};
@@ -20,8 +20,8 @@ const LONGEST_REPLY: usize = 76 + 15 * 4096;
 // One byte more than the longest line has: it shows a line to be too long.
 type Held = ArrayVec<u8, 65>;
 
-// The header, the table and the `list` buffer; how many lines were answered; what is held of a line that has not ended; and the replies that
-// are not written yet.
+// The header, the table and the `list` buffer; how many lines were answered; what is held of a line that has not ended; the replies that are not
+// written yet; and the text in which a reply is made. Each reply begins it anew.
 #[derive(Drop)]
 pub struct Session {
     pub header: Header,
@@ -30,6 +30,7 @@ pub struct Session {
     pub lines: u64,
     pub held: Held,
     pub out: Output,
+    pub text: LineText,
 }
 
 impl Session {
@@ -44,6 +45,7 @@ impl Session {
             lines: 0,
             held: Held::new(),
             out: Output::new(),
+            text: LineText::new(),
         }
     }
 
@@ -58,11 +60,16 @@ impl Session {
             Some(call) => {
                 let done = run(call, self.header, &mut self.table, &mut self.words);
                 self.header = done.reply.header;
-                put_reply(&mut self.out, self.lines, reply_fields(done.reply));
                 let listed = &self.words[..done.listed as usize];
-                put_keys(&mut self.out, listed);
+                put_answer(
+                    &mut self.out,
+                    &mut self.text,
+                    self.lines,
+                    reply_fields(done.reply),
+                    listed,
+                );
             }
-            None => put_reply(&mut self.out, self.lines, not_read()),
+            None => put_reply(&mut self.out, &mut self.text, self.lines, not_read()),
         }
     }
 

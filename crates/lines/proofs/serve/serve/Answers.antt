@@ -1,21 +1,23 @@
 use native.Mathlib.Omega.{arith}
-use lib.ListN.{take}
-use Rattle.arrayvec.specs.ArrayVec.{array_vec_len}
-use Rattle.lines.specs.Serving.{piece_of}
-use Rattle.lines.proofs.Serving.{reached_start, reached_after, no_lines, piece_within}
+use Rattle.std.proofs.Common.{rules, IsOk}
+use Rattle.lines.proofs.Serving.{serve_start, after_turn, at_end, no_turn_left}
 use Rattle.lines.proofs.serve.serve.Goals as goal
 
 pub loop-turn-init : goal.loop-turn-init
-loop-turn-init g c = record { reached = reached_start c.requires; lines = omega (arith, no_lines c.requires) }
+loop-turn-init g c = serve_start (g.R.Read.remaining c.args.reader.now) c.requires
 
 pub loop-turn-preserved : goal.loop-turn-preserved
 loop-turn-preserved g c =
-    let i = c.loop-turn in
-    let t = c.take_in.ensures in
-    let input = c.read.new.input in
-    let count = c.in_ok-count.count in
-    let held = array_vec_len i.session.held in
-    record {
-      reached = reached_after (take t.bytes (piece_of count held input)) i.invariant.reached t.keeps;
-      lines = omega (arith, t.lines, i.invariant.lines, piece_within input count held (omega (arith, c.read.ensures.size)));
-    }
+    let read = c.in_ok-count.ensures in
+    let written : IsOk c.take_in.result = search rules in
+    after_turn c.loop-turn.invariant c.read.new.input read.bytes.0 c.take_in.ensures written c.if-count-eq0.false read.count (omega (arith, c.read.ensures.size))
+
+pub returns-then-count-eq0 : goal.returns-then-count-eq0
+returns-then-count-eq0 g c =
+    let read = c.in_ok-count.ensures in
+    let none = c.if-count-eq0.true in
+    let written : IsOk c.take_in.result = search rules in
+    at_end c.loop-turn.invariant c.read.new.input read.bytes.0 c.take_in.ensures written none (read.bytes.1 none (omega (arith, c.read.ensures.size)))
+
+pub returns-after-loop-turn : goal.returns-after-loop-turn
+returns-after-loop-turn g c = no_turn_left c.loop-turn.invariant c.loop-turn-test.false

@@ -13,7 +13,7 @@ returns-in-Some c =
     (record {
       state = read_state s c.in-Some.call r;
       held = refl;
-      put = c.put_keys.ensures ∙ rw (c.put_reply.ensures.put, c.reply_fields.ensures, append_assoc, read_written s c.in-Some.call r);
+      put = c.put_answer.ensures ∙ rw (c.reply_fields.ensures, append_assoc, read_written s c.in-Some.call r);
     })
 
 pub returns-in-None : goal.returns-in-None
@@ -23,5 +23,5 @@ returns-in-None c =
     (record {
       state = unread_state s;
       held = refl;
-      put = c.put_reply-in-None.ensures.put ∙ rw (c.not_read.ensures, unread_written s);
+      put = c.put_reply.ensures.put ∙ rw (c.not_read.ensures, unread_written s);
     })
