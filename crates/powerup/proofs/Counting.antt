@@ -40,7 +40,7 @@ pub record Counting (all rest : List ℕ) (n : ℕ) (pairs ended : List ℕ) (o 
   pub long : max o.longest (longest (runs_from o.bit o.length rest)) ≡ longest (runs_from 0 0 all)
 
 -- A half-byte is the number that its four bits spell.
-half_of : (v : ℕ) (rest : List ℕ) → v < 16 → half_bytes (half_bits v ++ rest) ≡ v ∷ half_bytes rest
+pub half_of : (v : ℕ) (rest : List ℕ) → v < 16 → half_bytes (half_bits v ++ rest) ≡ v ∷ half_bytes rest
 unfolding half_bytes
 half_of v rest h = grind arith
 

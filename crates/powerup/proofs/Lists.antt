@@ -53,7 +53,7 @@ unfolding how_many
 many_most b k [] = omega arith
 many_most b k (r ∷ rs) = grind (arith, nat_tests, many_most b k rs)
 
-longest_append : (qs rs : List Run) → longest (qs ++ rs) ≡ max (longest qs) (longest rs)
+pub longest_append : (qs rs : List Run) → longest (qs ++ rs) ≡ max (longest qs) (longest rs)
 unfolding longest
 longest_append [] rs = omega arith
 longest_append (q ∷ qs) rs = omega (arith, longest_append qs rs)
