@@ -3,7 +3,7 @@
 // the session after a piece and at the end, and the bytes that are handed to a write. How the input is cut into pieces does not matter:
 // proofs/Pieces.antt.
 
-ghost use Rattle.std.specs.Prelude.{◌≡◌, ◌+◌, ◌<◌, ◌≤◌, ◌^◌, length, IfOk, IsOk, OnOk};
+ghost use Rattle.std.specs.Prelude.{◌≡◌, ◌+◌, ◌<◌, ◌≤◌, ◌^◌, ◌⊎◌, length, IfOk, IsOk, OnOk};
 ghost use Rattle.std.specs.Io.KnownBytes.{ReadConsumes};
 ghost use Rattle.arrayvec.specs.ArrayVec.{array_vec_len};
 ghost use Rattle.lines.specs.Output.{start_session};
@@ -33,7 +33,9 @@ impl fmt::Display for ServeError {
 }
 
 // The status is a success once the input was read to its end and every reply was written.
-pub fn run<R: Input + Print + Eprint>(rt: &R) -> ExitCode {
+pub fn run<R: Input + Print + Eprint>(rt: &R) -> ExitCode
+    ensures { (result ≡ ExitCode.SUCCESS) ⊎ (result ≡ ExitCode.FAILURE) }
+{
     let mut session = Session::start();
     // A buffer and a count, since that is what `read` fills and gives.
     let mut input = [0u8; 65536];

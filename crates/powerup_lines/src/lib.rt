@@ -5,6 +5,8 @@
 mod arguments;
 mod line;
 
+ghost use Rattle.std.specs.Prelude.{◌≡◌, ◌⊎◌};
+
 use arguments::Arguments;
 use arrayvec::ArrayVec;
 use console::failure;
@@ -18,7 +20,9 @@ use std::rt::Env;
 const BLOCK: usize = 2500;
 
 // The status is a success if the edition is 1 or 2, no read failed and every line was written.
-pub fn run<R: Env + Input + Print + Eprint>(rt: &R) -> ExitCode {
+pub fn run<R: Env + Input + Print + Eprint>(rt: &R) -> ExitCode
+    ensures { (result ≡ ExitCode.SUCCESS) ⊎ (result ≡ ExitCode.FAILURE) }
+{
     let arguments = Arguments::read(rt);
     let status = match arguments.edition {
         Some(_) => ExitCode::SUCCESS,

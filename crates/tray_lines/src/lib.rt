@@ -8,6 +8,8 @@ mod parse;
 mod put;
 mod serve;
 
+ghost use Rattle.std.specs.Prelude.{◌≡◌, ◌⊎◌};
+
 use console::failure;
 use numbers::read_number;
 use serve::serve;
@@ -19,7 +21,9 @@ use std::rt::Env;
 use tray::Sample;
 
 // The status is a success once every line was answered and every reply was written.
-pub fn run<R: Env + Input + Print + Eprint>(rt: &R) -> ExitCode {
+pub fn run<R: Env + Input + Print + Eprint>(rt: &R) -> ExitCode
+    ensures { (result ≡ ExitCode.SUCCESS) ⊎ (result ≡ ExitCode.FAILURE) }
+{
     let Some(settings) = settings_of(rt) else {
         return failure(
             rt,
